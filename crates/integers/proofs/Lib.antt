@@ -1,0 +1,9 @@
+pub mod Parts
+pub mod Ring
+pub mod Magnitude
+pub mod Fit
+pub mod Floor
+pub mod Sums
+pub mod Fold
+pub mod Dot
+pub mod Tests
