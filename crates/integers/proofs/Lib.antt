@@ -7,3 +7,5 @@ pub mod Sums
 pub mod Fold
 pub mod Dot
 pub mod Tests
+pub mod Fill
+pub mod Order

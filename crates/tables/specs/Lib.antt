@@ -1,0 +1,4 @@
+pub mod Sides
+pub mod Matrix
+pub mod Scan
+pub mod Scales

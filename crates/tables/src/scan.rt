@@ -1,0 +1,60 @@
+// The scan, and the two kinds of places that it joins.
+use crate::scans::SCANS;
+ghost use mathlib.Core.Path.{_≡_};
+ghost use Prim.Native.Nat.{_≤_, _<_, _*_, _^_};
+ghost use lib.ListN.{length, getD, set};
+ghost use lib.IntN.{pos};
+ghost use Rattle.tables.specs.Scan.{scan, scanAt, square};
+
+// A place in scan order, and a place in the block by rows. What they hold is reached in this file alone, so that only the lookup
+// turns the first into the second, and none can be taken for the other.
+pub struct ScanPlace(usize);
+
+pub struct BlockPlace(usize);
+
+// The scan of a square block of side 2^log2, for the lookup: taken once a call.
+pub fn fill_scan(log2: usize, held: &mut [u16])
+    requires { ⌜ (1 ≤ log2) × (log2 ≤ 5) × (length (now held) ≡ 4 ^ log2) ⌝ }
+    ensures { λ _. ⌜ now (held .exit) ≡ square log2 ⌝ }
+{
+    let table = SCANS;
+    let from = crate::start(log2);
+    let n = held.len();
+    let mut p = 0;
+    while p < n {
+        held[p] = table[from + p];
+        p += 1;
+    }
+}
+
+pub fn scan_place(p: usize) -> ScanPlace
+    ensures { λ r. ⌜ r .0 ≡ p ⌝ }
+{
+    ScanPlace(p)
+}
+
+// The lookup. `held` is the scan of a block w wide and h high.
+pub fn block_place(held: &[u16], w: usize, h: usize, p: ScanPlace) -> BlockPlace
+    requires { ⌜ (now held ≡ scan w h) × (p .0 < length (now held)) × (1 ≤ w) × (1 ≤ h) ⌝ }
+    ensures { λ r. ⌜ (r .0 ≡ scanAt w h (p .0)) × (r .0 < w * h) ⌝ }
+{
+    let at = p.0;
+    BlockPlace(held[at] as usize)
+}
+
+// What stands in a block at a place.
+pub fn value_at(block: &[i16], place: BlockPlace) -> i16
+    requires { ⌜ place .0 < length (now block) ⌝ }
+    ensures { λ r. ⌜ r ≡ getD (now (block .entry)) (place .0) (pos 0) ⌝ }
+{
+    let at = place.0;
+    block[at]
+}
+
+pub fn put_at(block: &mut [i16], place: BlockPlace, value: i16)
+    requires { ⌜ place .0 < length (now block) ⌝ }
+    ensures { λ _. ⌜ now (block .exit) ≡ set (now (block .entry)) (place .0) value ⌝ }
+{
+    let at = place.0;
+    block[at] = value;
+}
