@@ -1,0 +1,11 @@
+pub mod Lambda
+pub mod Level
+pub mod Rates
+pub mod Choice
+pub mod Price
+pub mod Cut
+pub mod OnePass
+pub mod Promises
+pub mod Bounds
+pub mod Tail
+pub mod Tests

@@ -1,0 +1,85 @@
+// What a level costs and what a finished block costs: the quantiser's numbers, the cost tables and lambda, each by a
+// definition of specs/ that says document 01's words. What is worked out at run time stands here: whether a lambda and the
+// cost tables are refused, and the whole number of an accepted lambda.
+ghost use mathlib.Core.Path.{_≡_};
+ghost use mathlib.Core.Bool.{false};
+ghost use Rattle.integers.specs.Tests.{some};
+ghost use Rattle.price.specs.Lambda.{lambdaRefused, lambdaSum, LambdaWhole};
+ghost use Rattle.price.specs.Costs.{dear, costRefused};
+
+// The cost tables, flat: pair k of a table stands at 2k and 2k+1. 4 run pairs, 4 level pairs, 2 last pairs, and 4 cbf
+// pairs: all, luma, cb, cr.
+pub struct Costs {
+    pub run: [u64; 8],
+    pub level: [u64; 8],
+    pub last: [u64; 4],
+    pub cbf: [u64; 8],
+}
+
+// One component's settings.
+pub struct Settings {
+    pub qp: u32,
+    pub lambda: f64,
+}
+
+// 3 LAMBDA. Only a NaN differs from itself, and -0.0 is not below 0.
+pub fn lambda_refused(d: f64) -> bool
+    ensures { λ r. ⌜ r ≡ lambdaRefused d ⌝ }
+{
+    if d != d {
+        return true;
+    }
+    if d < 0.0 {
+        return true;
+    }
+    d > 8192.0
+}
+
+// The sum whose fraction is dropped: two operations, each rounded once.
+fn lambda_sum(d: f64) -> f64
+    ensures { λ r. ⌜ r ≡ lambdaSum d ⌝ }
+{
+    d * 32768.0 + 0.5
+}
+
+// The whole number of an accepted lambda.
+pub fn lambda_whole(d: f64) -> u64
+    requires { ⌜ lambdaRefused d ≡ false ⌝ }
+    ensures { λ r. ⌜ LambdaWhole d r ⌝ }
+{
+    std::num::truncating_f64_to_u64(lambda_sum(d))
+}
+
+// Whether some entry of a table is above the most that a cost may be.
+fn some_dear(table: &[u64]) -> bool
+    ensures { λ r. ⌜ r ≡ some dear (now (table .entry)) ⌝ }
+{
+    let mut i = 0;
+    while i < table.len() {
+        if 1048576 < table[i] {
+            return true;
+        }
+        i += 1;
+    }
+    false
+}
+
+// 4 COST.
+pub fn costs_refused(t: Costs) -> bool
+    ensures { λ r. ⌜ r ≡ costRefused t ⌝ }
+{
+    let run = t.run;
+    if some_dear(&run) {
+        return true;
+    }
+    let level = t.level;
+    if some_dear(&level) {
+        return true;
+    }
+    let last = t.last;
+    if some_dear(&last) {
+        return true;
+    }
+    let cbf = t.cbf;
+    some_dear(&cbf)
+}

@@ -1,0 +1,64 @@
+-- The law of the refusals: the verdict is the first fault that holds, and a call without a fault is accepted. Both ways round, so
+-- that a verdict and a list of faults say the same.
+-- Assumes nothing.
+use mathlib.Core.Path.{_≡_, refl}
+use mathlib.Core.Bool.{Bool, true, false, cond}
+use mathlib.Core.List.{List, [], _∷_}
+use Prim.Native.Nat.{ℕ}
+use native.Mathlib.Omega.{arith}
+use Rattle.refusals.specs.Numbers.{numberOf, componentOf}
+use Rattle.refusals.specs.Faults.{Fault, Verdict, accepted, refused, verdict}
+
+-- f stands in the list behind faults of which none holds
+pub data First {I : Type 0} (i : I) (f : Fault I) : List (Fault I) → Type 0 where
+  here : {fs : List (Fault I)} → f .holds i ≡ true → First i f (f ∷ fs)
+  later : {g : Fault I} {fs : List (Fault I)} → g .holds i ≡ false → First i f fs → First i f (g ∷ fs)
+
+-- none of the list holds
+pub data None {I : Type 0} (i : I) : List (Fault I) → Type 0 where
+  end : None i []
+  but : {f : Fault I} {fs : List (Fault I)} → f .holds i ≡ false → None i fs → None i (f ∷ fs)
+
+module _ {I : Type 0} (i : I) where
+  pub refused-with-the-first : {f : Fault I} (fs : List (Fault I)) → First i f fs
+      → verdict fs i ≡ refused (numberOf (f .refusal)) (componentOf (f .component i))
+  unfolding verdict
+  refused-with-the-first (g ∷ fs) (here h) = rw h
+  refused-with-the-first (g ∷ fs) (later h r) = rw h (refused-with-the-first fs r)
+
+  pub accepted-without-a-fault : (fs : List (Fault I)) → None i fs → verdict fs i ≡ accepted
+  unfolding verdict
+  accepted-without-a-fault [] end = refl
+  accepted-without-a-fault (f ∷ fs) (but h r) = rw h (accepted-without-a-fault fs r)
+
+  -- ---- and back
+  pub no-fault-if-accepted : (fs : List (Fault I)) → verdict fs i ≡ accepted → None i fs
+  unfolding verdict
+  no-fault-if-accepted [] e = end
+  no-fault-if-accepted (f ∷ fs) e = split (f .holds i) refl e (no-fault-if-accepted fs)
+    where
+      split : (t : Bool) → f .holds i ≡ t
+          → cond t (refused (numberOf (f .refusal)) (componentOf (f .component i))) (verdict fs i) ≡ accepted
+          → (verdict fs i ≡ accepted → None i fs) → None i (f ∷ fs)
+      split true h q rest = absurd (let z : _≡_ {A = ℕ} 0 1 = cc in let no : ⊥ = omega arith in no)
+      split false h q rest = but h (rest q)
+
+  -- the fault that a refusal comes from
+  pub record Came (number component : ℕ) (fs : List (Fault I)) : Type 0 where
+    pub fault : Fault I
+    pub first : First i fault fs
+    pub its-number : numberOf (fault .refusal) ≡ number
+    pub its-component : componentOf (fault .component i) ≡ component
+
+  pub first-fault-if-refused : (fs : List (Fault I)) (n c : ℕ) → verdict fs i ≡ refused n c → Came n c fs
+  unfolding verdict
+  first-fault-if-refused [] n c e = absurd (let z : _≡_ {A = ℕ} 0 1 = cc in let no : ⊥ = omega arith in no)
+  first-fault-if-refused (f ∷ fs) n c e = split (f .holds i) refl e (first-fault-if-refused fs n c)
+    where
+      split : (t : Bool) → f .holds i ≡ t
+          → cond t (refused (numberOf (f .refusal)) (componentOf (f .component i))) (verdict fs i) ≡ refused n c
+          → (verdict fs i ≡ refused n c → Came n c fs) → Came n c (f ∷ fs)
+      split true h q rest = record { fault = f; first = here h; its-number = cc; its-component = cc }
+      split false h q rest =
+          let r = rest q in
+          record { fault = r .fault; first = later h (r .first); its-number = r .its-number; its-component = r .its-component }
