@@ -9,3 +9,4 @@ pub mod Dot
 pub mod Tests
 pub mod Fill
 pub mod Order
+pub mod Lists

@@ -1,8 +1,8 @@
 -- From a test that was computed over a whole table to the rule at each of its entries.
 -- Assumes nothing.
-use mathlib.Core.Path.{_≡_, _∙_, subst, sym, ap}
+use mathlib.Core.Path.{_≡_, refl, _∙_, subst, sym, ap}
 use mathlib.Core.Logic.{⊎-elim}
-use mathlib.Core.Bool.{Bool, true, false, _&&_}
+use mathlib.Core.Bool.{Bool, true, false, _&&_, _||_, true≢false}
 use mathlib.Core.List.{List, [], _∷_}
 use Prim.Native.Nat.{ℕ, zero, suc, _+_, _<_, _≤_}
 use native.Mathlib.Nat.{add-zero, zero-add, add-suc, suc-add, le-of-suc-le-suc, not-suc-le-zero, eq-or-lt-of-le}
@@ -43,7 +43,7 @@ module _ {A : Type 0} (d : A) where
 
 pub listed-length : {A : Type 0} (f : ℕ → A) (i n : ℕ) → length (listed f i n) ≡ n
 unfolding listed
-listed-length f i zero = mathlib.Core.Path.refl
+listed-length f i zero = refl
 listed-length f i (suc n) = ap suc (listed-length f (suc i) n)
 
 pub eqℤ→eq : (a b : ℤ) → T (eqℤ a b) → a ≡ b
@@ -51,3 +51,16 @@ eqℤ→eq (pos a) (pos b) t = ap pos (eqb→eq a b t)
 eqℤ→eq (pos a) (negsuc b) t = absurd t
 eqℤ→eq (negsuc a) (pos b) t = absurd t
 eqℤ→eq (negsuc a) (negsuc b) t = ap negsuc (eqb→eq a b t)
+
+-- ---- tests joined
+pub neither : (a b : Bool) → (a || b) ≡ false → (a ≡ false) × (b ≡ false)
+neither true b e = absurd (true≢false e)
+neither false b e = (refl, e)
+
+pub not-both : (a b : Bool) → (a && b) ≡ false → a ≡ true → b ≡ false
+not-both true b e h = e
+not-both false b e h = absurd (true≢false (sym h))
+
+pub both : (a b : Bool) → (a && b) ≡ true → (a ≡ true) × (b ≡ true)
+both true b e = (refl, e)
+both false b e = absurd (true≢false (sym e))

@@ -20,6 +20,11 @@ unfolding signed
 signed-magnitude (pos n) a = refl
 signed-magnitude (negsuc n) a = magnitude-neg (pos a)
 
+pub signed-zero : (c : ℤ) → signed c 0 ≡ pos 0
+unfolding signed
+signed-zero (pos n) = refl
+signed-zero (negsuc n) = refl
+
 pub signed-sign : (c : ℤ) (a : ℕ) → (signed c a ≡ pos 0) ⊎ (nonNeg (signed c a) ≡ nonNeg c)
 unfolding signed
 signed-sign (pos n) a = inr refl

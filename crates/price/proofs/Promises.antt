@@ -25,7 +25,7 @@ cut-level zero (a ∷ ls) (suc k) = cut-level zero ls k
 cut-level (suc c) (a ∷ ls) zero = inr refl
 cut-level (suc c) (a ∷ ls) (suc k) = cut-level c ls k
 
-nonzeros-at-most : (ls : List ℕ) → nonzeros ls ≤ length ls
+pub nonzeros-at-most : (ls : List ℕ) → nonzeros ls ≤ length ls
 unfolding nonzeros
 nonzeros-at-most [] = omega arith
 nonzeros-at-most (zero ∷ ls) = omega (arith, nonzeros-at-most ls)

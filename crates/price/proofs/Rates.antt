@@ -12,6 +12,7 @@ use lib.ListN.{length, drop, getD}
 use lib.Seq.{drop-cons}
 use borrow.Author.Tests.{ltb-false}
 use Rattle.integers.specs.Tests.{some}
+use Rattle.integers.proofs.Tests.{neither}
 use Rattle.price.specs.declared.Costs.{Costs}
 use Rattle.price.specs.Costs.{dear, costRefused, InRange, Rows, entry, runRow, rate}
 
@@ -20,10 +21,6 @@ pub some-from : (table : List ℕ) (i : ℕ) → i < length table
     → some dear (drop i table) ≡ (dear (getD table i 0) || some dear (drop (i + 1) table))
 unfolding some
 some-from table i h = rw (add-one, drop-cons table i 0)
-
-neither : (a b : Bool) → (a || b) ≡ false → (a ≡ false) × (b ≡ false)
-neither false b e = (refl, e)
-neither true b e = absurd (true≢false e)
 
 none-dear : (table : List ℕ) → some dear table ≡ false → (k : ℕ) → getD table k 0 ≤ 1048576
 unfolding some

@@ -1,2 +1,5 @@
-pub mod Laid
 pub mod Numbers
+pub mod Laid
+pub mod Accepted
+pub mod Promises
+pub mod Bounds

@@ -16,46 +16,47 @@ use Rattle.quantise.specs.Block.{Quant, called, isSkipped}
 use Rattle.quantise.specs.Call.{Outcome, coded, refusedWith, quantAnswer, quantBuffer}
 
 -- n, and -n
-abbrev p : ℕ → ℤ
+abbrev pub p : ℕ → ℤ
 p n = pos n
 
-abbrev m : ℕ → ℤ
+abbrev pub m : ℕ → ℤ
 m n = negℤ (pos n)
 
 -- the d whose whole number is n: n / 32768
-abbrev parts : ℕ → Float
+abbrev pub parts : ℕ → Float
 parts n = fin false n (negsuc 14)
 
-abbrev at : ℕ → Float → Settings
+abbrev pub at : ℕ → Float → Settings
 at qp d = record { qp = qp; lambda = d }
 
-abbrev tables : (run level last cbf : List ℕ) → Costs
+abbrev pub tables : (run level last cbf : List ℕ) → Costs
 tables run level last cbf = record { run = run; level = level; last = last; cbf = cbf }
 
 -- every entry n
-abbrev flat : ℕ → Costs
+abbrev pub flat : ℕ → Costs
 flat n = tables (replicate 8 n) (replicate 8 n) (replicate 4 n) (replicate 8 n)
 
 -- P5 to P9: 2×2, QP 4, luma, intra-coded, every entry 32768
-abbrev small : Float → Bool → List ℤ → Quant
+abbrev pub small : Float → Bool → List ℤ → Quant
 small d intraSlice block = called block 1 Y (at 4 d) intraSlice true (flat 32768)
 
 -- accepted with this count and price, and this buffer at the end
-abbrev Gives : Quant → ℕ → ℕ → List ℤ → Type 0
+abbrev pub Gives : Quant → ℕ → ℕ → List ℤ → Type 0
 Gives c count price after = (quantAnswer c ≡ coded count price) × (quantBuffer c ≡ after)
 
 -- refused, with the buffer as it was
-abbrev Refuses : Quant → ℕ → ℕ → Type 0
+abbrev pub Refuses : Quant → ℕ → ℕ → Type 0
 Refuses c number component = (quantAnswer c ≡ refusedWith number component) × (quantBuffer c ≡ c .buffer)
 
 -- 1/1024 and 1/64
-abbrev usual : Float
+abbrev pub usual : Float
 usual = fin false 1 (negsuc 9)
 
-abbrev high : Float
+abbrev pub high : Float
 high = fin false 1 (negsuc 5)
 
-pub numbers :
+abbrev pub Numbers : Type 0
+Numbers =
     -- P5, with a surplus behind the block
     Gives (small usual true (p 20 ∷ p 7 ∷ p 0 ∷ p 0 ∷ p 9 ∷ m 9 ∷ [])) 1 22282240 (p 1 ∷ p 0 ∷ p 0 ∷ p 0 ∷ p 9 ∷ m 9 ∷ [])
     -- P6
@@ -69,6 +70,8 @@ pub numbers :
     × (isSkipped (small usual true (p 10 ∷ p 0 ∷ p 0 ∷ p 0 ∷ [])) ≡ false)
     × Gives (small usual false (p 11 ∷ p 0 ∷ p 0 ∷ p 0 ∷ [])) 0 0 (p 0 ∷ p 0 ∷ p 0 ∷ p 0 ∷ [])
     × (isSkipped (small usual false (p 12 ∷ p 0 ∷ p 0 ∷ p 0 ∷ [])) ≡ false)
+
+pub numbers : Numbers
 unfolding called quantAnswer quantBuffer isSkipped
 numbers = ((refl, refl), (refl, refl), (refl, refl), (refl, refl), (refl, refl), refl, (refl, refl), refl)
 

@@ -41,14 +41,14 @@ rowsOf Y intraCoded = record { run = 0; level = 0; last = 0; cbf = cond intraCod
 rowsOf U intraCoded = record { run = 2; level = 2; last = 1; cbf = 2 }
 rowsOf «V» intraCoded = record { run = 2; level = 2; last = 1; cbf = 3 }
 
--- document 01's call: a square block, its scales and rows, and 32768 for the sign
-unfoldable pub called : List ℤ → ℕ → Component → Settings → Bool → Bool → Costs → Quant
+-- what document 01 fixes: its scales, its rows, and 32768 for the sign
+unfoldable pub coding : List ℤ → (lw lh : ℕ) → Component → Settings → Bool → Bool → Costs → Quant
 unfolding rowsOf forward
-called buffer l k s intraSlice intraCoded t =
+coding buffer lw lh k s intraSlice intraCoded t =
     record {
       buffer = buffer;
-      lw = l;
-      lh = l;
+      lw = lw;
+      lh = lh;
       component = k;
       settings = s;
       intraSlice = intraSlice;
@@ -57,6 +57,11 @@ called buffer l k s intraSlice intraCoded t =
       sign = 32768;
       rows = rowsOf k intraCoded;
     }
+
+-- document 01's call is for square blocks
+unfoldable pub called : List ℤ → ℕ → Component → Settings → Bool → Bool → Costs → Quant
+unfolding coding
+called buffer l k s intraSlice intraCoded t = coding buffer l l k s intraSlice intraCoded t
 
 -- ---- the numbers of a call
 -- l: log2 of the side, half the sum of the two

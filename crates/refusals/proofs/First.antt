@@ -2,12 +2,15 @@
 -- that a verdict and a list of faults say the same.
 -- Assumes nothing.
 use mathlib.Core.Path.{_≡_, refl}
-use mathlib.Core.Bool.{Bool, true, false, cond}
+use mathlib.Core.Bool.{Bool, true, false, cond, _&&_}
 use mathlib.Core.List.{List, [], _∷_}
-use Prim.Native.Nat.{ℕ}
+use Prim.Native.Nat.{ℕ, _≤_}
 use native.Mathlib.Omega.{arith}
+use lib.Dec.{leb}
+use borrow.Author.Tests.{leb-true, not-false}
+use Rattle.integers.proofs.Tests.{both}
 use Rattle.refusals.specs.Numbers.{numberOf, componentOf}
-use Rattle.refusals.specs.Faults.{Fault, Verdict, accepted, refused, verdict}
+use Rattle.refusals.specs.Faults.{Fault, Verdict, accepted, refused, verdict, outside}
 
 -- f stands in the list behind faults of which none holds
 pub data First {I : Type 0} (i : I) (f : Fault I) : List (Fault I) → Type 0 where
@@ -62,3 +65,16 @@ module _ {I : Type 0} (i : I) where
       split false h q rest =
           let r = rest q in
           record { fault = r .fault; first = later h (r .first); its-number = r .its-number; its-component = r .its-component }
+
+  -- a list without a fault, taken apart
+  pub head-fails : {f : Fault I} {fs : List (Fault I)} → None i (f ∷ fs) → f .holds i ≡ false
+  head-fails (but h r) = h
+
+  pub rest-fails : {f : Fault I} {fs : List (Fault I)} → None i (f ∷ fs) → None i fs
+  rest-fails (but h r) = r
+
+-- what is not outside lo..hi
+pub inside : (lo hi n : ℕ) → outside lo hi n ≡ false → (lo ≤ n) × (n ≤ hi)
+inside lo hi n e =
+    let b = both (leb lo n) (leb n hi) (not-false (leb lo n && leb n hi) e) in
+    (leb-true lo n (b .0), leb-true n hi (b .1))

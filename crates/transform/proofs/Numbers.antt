@@ -8,29 +8,30 @@ use Rattle.refusals.specs.Faults.{Verdict, accepted, refused}
 use Rattle.transform.specs.Call.{Trans, transVerdict, transBuffer}
 
 -- n, and -n
-abbrev p : ℕ → ℤ
+abbrev pub p : ℕ → ℤ
 p n = pos n
 
-abbrev m : ℕ → ℤ
+abbrev pub m : ℕ → ℤ
 m n = negℤ (pos n)
 
 -- a call on a buffer
-abbrev call : (lw lh : ℕ) → List ℤ → Trans
+abbrev pub call : (lw lh : ℕ) → List ℤ → Trans
 call lw lh buffer = record { buffer = buffer; lw = lw; lh = lh }
 
 -- accepted, with this buffer at the end
-abbrev Gives : Trans → List ℤ → Type 0
+abbrev pub Gives : Trans → List ℤ → Type 0
 Gives t after = (transVerdict t ≡ accepted) × (transBuffer t ≡ after)
 
 -- refused, with the buffer as it was
-abbrev Refuses : Trans → ℕ → Type 0
+abbrev pub Refuses : Trans → ℕ → Type 0
 Refuses t number = (transVerdict t ≡ refused number 0) × (transBuffer t ≡ t .buffer)
 
-abbrev corner : ℤ → List ℤ
+abbrev pub corner : ℤ → List ℤ
 corner z =
     z ∷ p 0 ∷ p 0 ∷ p 0 ∷ p 0 ∷ p 0 ∷ p 0 ∷ p 0 ∷ p 0 ∷ p 0 ∷ p 0 ∷ p 0 ∷ p 0 ∷ p 0 ∷ p 0 ∷ p 0 ∷ []
 
-pub numbers :
+abbrev pub Numbers : Type 0
+Numbers =
     -- P1, with a surplus behind the block
     Gives (call 1 1 (p 1 ∷ p 2 ∷ p 3 ∷ p 4 ∷ p 5 ∷ m 6 ∷ [])) (p 80 ∷ m 16 ∷ m 32 ∷ p 0 ∷ p 5 ∷ m 6 ∷ [])
     -- P3
@@ -42,6 +43,8 @@ pub numbers :
     -- a rectangle, 4 wide and 2 high: rows and columns are not mixed up
     × Gives (call 2 1 (p 0 ∷ p 0 ∷ p 0 ∷ p 0 ∷ p 16 ∷ p 0 ∷ p 0 ∷ p 0 ∷ []))
     (p 64 ∷ p 84 ∷ p 64 ∷ p 35 ∷ m 64 ∷ m 84 ∷ m 64 ∷ m 35 ∷ [])
+
+pub numbers : Numbers
 unfolding transVerdict transBuffer
 numbers = ((refl, refl), (refl, refl), (refl, refl), (refl, refl))
 

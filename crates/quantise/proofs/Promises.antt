@@ -1,0 +1,238 @@
+-- Demand 3 of the call itself, over its buffer at entry and at exit: what a level is, that what is reported is the count and the price
+-- of the levels left in the buffer, that no cut of the walk is cheaper, and which blocks are skipped.
+-- Assumes nothing.
+use mathlib.Core.Path.{_≡_, refl, sym, _∙_, ap, subst}
+use mathlib.Core.Logic.{_⊎_, inl, inr, ⊎-elim}
+use mathlib.Core.Bool.{Bool, true, false, not, cond}
+use mathlib.Core.List.{List, [], _∷_, map}
+use Prim.Native.Nat.{ℕ, zero, suc, _*_, _^_, _≤_, _<_}
+use native.Mathlib.Nat.{not-suc-le-zero, le-of-suc-le-suc, one-le-pow}
+use native.Mathlib.Omega.{arith}
+use borrow.Author.Tests.{leb-false, lt-leb, not-true, not-false}
+use lib.Dec.{leb, lit≤}
+use lib.ListN.{length, getD, drop, length-map}
+use lib.Seq.{ext-getD}
+use lib.Signed.{nonNeg}
+use lib.IntN.{ℤ, pos, natAbs}
+use Rattle.integers.specs.Sum.{at}
+use Rattle.integers.specs.Tests.{some}
+use Rattle.integers.proofs.Lists.{map-at, none-passes, passed-by-none}
+use Rattle.tables.specs.Scan.{scan, scanAt}
+use Rattle.tables.proofs.OneToOne.{scan-length}
+use Rattle.refusals.specs.Faults.{accepted}
+use Rattle.price.specs.Level.{scaled, magnitude, threshold, signed}
+use Rattle.price.specs.Rule.{Allowed}
+use Rattle.price.specs.Price.{nonzeros, price}
+use Rattle.price.specs.Walk.{walked, cutAt, Cut, cutOf, written}
+use Rattle.price.proofs.Level.{signed-zero, signed-magnitude, signed-sign}
+use Rattle.price.proofs.Promises.{written-length, written-is-the-walk-cut, written-zero-or-m-or-m-1, written-no-dearer, empty-wins-then-earliest}
+use Rattle.quantise.specs.Block.{Quant, area, scaleHere, shiftHere, ruleOf, blockPlaces, scanned, places, isSkipped, magnitudes, signs, laid, countOf, priceOf, quantised}
+use Rattle.quantise.specs.Call.{Outcome, coded, quantVerdict, quantAnswer, quantBuffer}
+use Rattle.quantise.proofs.Laid.{laid-on-scan, surplus-kept}
+use Rattle.quantise.proofs.Accepted.{Accepted, no-fault}
+
+-- ---- a level, and the signs of a list
+level-of : (z : ℤ) (m a : ℕ) → Allowed m a
+    → (signed z a ≡ pos 0)
+    ⊎ ((nonNeg (signed z a) ≡ nonNeg z) × ((natAbs (signed z a) ≡ m) ⊎ (suc (natAbs (signed z a)) ≡ m)))
+level-of z m a (inl e) = inl (ap (signed z) e ∙ signed-zero z)
+level-of z m a (inr h) =
+    ⊎-elim inl
+    (λ s. inr (s, ⊎-elim (λ e. inl (signed-magnitude z a ∙ e)) (λ e. inr (ap suc (signed-magnitude z a) ∙ e .1)) h))
+    (signed-sign z a)
+
+signs-length : (cs : List ℤ) (ms : List ℕ) → length cs ≡ length ms → length (signs cs ms) ≡ length cs
+unfolding signs
+signs-length [] ms e = refl
+signs-length (c ∷ cs) [] e = absurd (let z : ⊥ = omega arith in z)
+signs-length (c ∷ cs) (m ∷ ms) e = ap suc (signs-length cs ms (omega arith))
+
+signs-at : (cs : List ℤ) (ms : List ℕ) (k : ℕ) → length cs ≡ length ms → k < length cs → at (signs cs ms) k ≡ signed (at cs k) (getD ms k 0)
+unfolding signs
+signs-at [] ms k e h = absurd (not-suc-le-zero h)
+signs-at (c ∷ cs) [] k e h = absurd (let z : ⊥ = omega arith in z)
+signs-at (c ∷ cs) (m ∷ ms) zero e h = refl
+signs-at (c ∷ cs) (m ∷ ms) (suc k) e h = signs-at cs ms k (omega arith) (le-of-suc-le-suc h)
+
+none-nonzero : (l : List ℕ) → nonzeros (map (λ L. 0) l) ≡ 0
+unfolding nonzeros
+none-nonzero [] = refl
+none-nonzero (x ∷ xs) = none-nonzero xs
+
+-- the magnitudes that a buffer holds, in scan order
+abbrev pub magnitudesIn : Quant → List ℤ → List ℕ
+magnitudesIn c l = map (λ p. natAbs (at l p)) (blockPlaces c)
+
+-- the block place of a scan place
+abbrev pub placeOf : Quant → ℕ → ℕ
+placeOf c p = scanAt (2 ^ c .lw) (2 ^ c .lh) p
+
+-- the rounded magnitude of the coefficient at a scan place
+abbrev pub rounded : Quant → ℕ → ℕ
+rounded c p = magnitude (shiftHere c) (scaled (scaleHere c) (at (c .buffer) (placeOf c p)))
+
+module _ (c : Quant) (ok : quantVerdict c ≡ accepted) where
+  facts : Accepted c
+  facts = no-fault c ok
+
+  places-count : length (blockPlaces c) ≡ area c
+  unfolding blockPlaces area
+  places-count = scan-length (c .lw) (c .lh) (facts .wide .1) (facts .high .1)
+
+  scanned-count : length (scanned c) ≡ area c
+  unfolding scanned
+  scanned-count = length-map (blockPlaces c) (λ p. at (c .buffer) p) ∙ places-count
+
+  L-count : length (places c) ≡ area c
+  unfolding places
+  L-count = length-map (scanned c) (λ z. scaled (scaleHere c) z) ∙ scanned-count
+
+  pub magnitudes-count : length (magnitudes c) ≡ area c
+  unfolding magnitudes
+  magnitudes-count = by (isSkipped c)
+    where
+      by : (t : Bool) → length (cond t (map (λ L. 0) (places c)) (written (ruleOf c) (places c))) ≡ area c
+      by true = length-map (places c) (λ L. 0) ∙ L-count
+      by false = written-length (ruleOf c) (places c) ∙ L-count
+
+  scanned-at : (p : ℕ) → p < area c → at (scanned c) p ≡ at (c .buffer) (placeOf c p)
+  unfolding scanned blockPlaces scanAt
+  scanned-at p h = map-at 0 (pos 0) (λ p. at (c .buffer) p) (blockPlaces c) p (omega (arith, places-count))
+
+  L-at : (p : ℕ) → p < area c → getD (places c) p 0 ≡ scaled (scaleHere c) (at (c .buffer) (placeOf c p))
+  unfolding places
+  L-at p h =
+      map-at (pos 0) 0 (λ z. scaled (scaleHere c) z) (scanned c) p (omega (arith, scanned-count))
+      ∙ ap (λ (z : ℤ). scaled (scaleHere c) z) (scanned-at p h)
+
+  after : quantBuffer c ≡ quantised c
+  unfolding quantBuffer
+  after = rw ok
+
+  -- the level at a scan place
+  level-is : (p : ℕ) → p < area c → at (quantBuffer c) (placeOf c p) ≡ signed (at (c .buffer) (placeOf c p)) (getD (magnitudes c) p 0)
+  unfolding quantised blockPlaces area
+  level-is p h =
+      let e = scanned-count ∙ sym magnitudes-count in
+      ap (λ (l : List ℤ). at l (placeOf c p)) after
+      ∙ laid-on-scan (2 ^ c .lw) (2 ^ c .lh) (one-le-pow _ _ (lit≤ tt)) (one-le-pow _ _ (lit≤ tt))
+      (signs (scanned c) (magnitudes c)) (c .buffer) p
+      (signs-length (scanned c) (magnitudes c) e ∙ scanned-count ∙ sym places-count)
+      (facts .long)
+      (omega (arith, places-count))
+      ∙ signs-at (scanned c) (magnitudes c) p e (omega (arith, scanned-count))
+      ∙ ap (λ (z : ℤ). signed z (getD (magnitudes c) p 0)) (scanned-at p h)
+
+  -- what the buffer holds is what was meant
+  pub read-back : magnitudesIn c (quantBuffer c) ≡ magnitudes c
+  unfolding blockPlaces scanAt
+  read-back =
+      let n = length-map (blockPlaces c) (λ p. natAbs (at (quantBuffer c) p)) ∙ places-count in
+      ext-getD 0 (magnitudesIn c (quantBuffer c)) (magnitudes c) (n ∙ sym magnitudes-count)
+      (λ p lt.
+      map-at 0 0 (λ p. natAbs (at (quantBuffer c) p)) (blockPlaces c) p (omega (arith, n, places-count))
+      ∙ ap natAbs (level-is p (omega (arith, n)))
+      ∙ signed-magnitude (at (c .buffer) (placeOf c p)) (getD (magnitudes c) p 0))
+
+  answer-is : quantAnswer c ≡ coded (nonzeros (magnitudes c)) (priceOf c)
+  unfolding quantAnswer
+  answer-is = rw ok
+
+  -- ---- a walked block
+  module _ (walks : isSkipped c ≡ false) where
+    walked-magnitudes : magnitudes c ≡ written (ruleOf c) (places c)
+    unfolding magnitudes
+    walked-magnitudes = rw walks
+
+    -- a level is 0 or has its coefficient's sign, with magnitude m or m - 1
+    pub level-zero-or-signed-m-or-m-1 : (p : ℕ) → p < area c
+        → (let v = at (quantBuffer c) (placeOf c p) in
+        (v ≡ pos 0) ⊎ ((nonNeg v ≡ nonNeg (at (c .buffer) (placeOf c p))) × ((natAbs v ≡ rounded c p) ⊎ (suc (natAbs v) ≡ rounded c p))))
+    unfolding ruleOf
+    level-zero-or-signed-m-or-m-1 p h =
+        let a = getD (magnitudes c) p 0 in
+        let m : Allowed (rounded c p) a =
+        subst (λ (l : List ℕ). Allowed (rounded c p) (getD l p 0)) (sym walked-magnitudes)
+        (subst (λ (L : ℕ). Allowed (magnitude (shiftHere c) L) (getD (written (ruleOf c) (places c)) p 0)) (L-at p h)
+        (written-zero-or-m-or-m-1 (ruleOf c) (places c) p (omega (arith, L-count)))) in
+        rw (level-is p h) (level-of (at (c .buffer) (placeOf c p)) (rounded c p) a m)
+
+    -- the block left in the buffer is the walk, cut at 0 or behind a nonzero level
+    pub block-is-the-walk-cut :
+        (magnitudesIn c (quantBuffer c) ≡ cutAt (cutOf (ruleOf c) (places c)) (walked (ruleOf c) false (places c)))
+        × Cut (walked (ruleOf c) false (places c)) (cutOf (ruleOf c) (places c))
+    block-is-the-walk-cut =
+        let w = written-is-the-walk-cut (ruleOf c) (places c) in (read-back ∙ walked-magnitudes ∙ w .0, w .1)
+
+    -- the price of the block left in the buffer
+    abbrev its-price : ℕ
+    its-price = price (ruleOf c) (magnitudesIn c (quantBuffer c)) (places c)
+
+    written-price : its-price ≡ price (ruleOf c) (written (ruleOf c) (places c)) (places c)
+    written-price = ap (λ (l : List ℕ). price (ruleOf c) l (places c)) (read-back ∙ walked-magnitudes)
+
+    price-is : priceOf c ≡ price (ruleOf c) (magnitudes c) (places c)
+    unfolding priceOf
+    price-is = rw walks
+
+    -- the count reported is that of the nonzero levels in the buffer, and the price reported is the block's
+    pub count-and-price-are-the-block's : quantAnswer c ≡ coded (nonzeros (magnitudesIn c (quantBuffer c))) its-price
+    count-and-price-are-the-block's =
+        answer-is
+        ∙ ap (λ (n : ℕ). coded n (priceOf c)) (ap nonzeros (sym read-back))
+        ∙ ap (λ (n : ℕ). coded (nonzeros (magnitudesIn c (quantBuffer c))) n)
+        (price-is ∙ ap (λ (l : List ℕ). price (ruleOf c) l (places c)) (sym read-back))
+
+    -- it is no dearer than the walk cut behind any nonzero level, or the empty block
+    pub block-no-dearer : (k : ℕ) → Cut (walked (ruleOf c) false (places c)) k
+        → its-price ≤ price (ruleOf c) (cutAt k (walked (ruleOf c) false (places c))) (places c)
+    block-no-dearer k h = rw written-price (written-no-dearer (ruleOf c) (places c) k h)
+
+    -- at equal price the empty block wins, then the earliest cut
+    pub earlier-cuts-dearer : (k : ℕ) → Cut (walked (ruleOf c) false (places c)) k → k < cutOf (ruleOf c) (places c)
+        → its-price < price (ruleOf c) (cutAt k (walked (ruleOf c) false (places c))) (places c)
+    earlier-cuts-dearer k h l = rw written-price (empty-wins-then-earliest (ruleOf c) (places c) k h l)
+
+  -- ---- the surplus, and a skipped block
+  pub surplus-unchanged : drop (area c) (quantBuffer c) ≡ drop (area c) (c .buffer)
+  unfolding quantised blockPlaces area
+  surplus-unchanged =
+      ap (λ (l : List ℤ). drop (area c) l) after
+      ∙ surplus-kept (2 ^ c .lw) (2 ^ c .lh) (one-le-pow _ _ (lit≤ tt)) (one-le-pow _ _ (lit≤ tt)) (signs (scanned c) (magnitudes c)) (c .buffer)
+
+  abbrev limit : ℕ
+  limit = threshold (c .intraSlice) (shiftHere c)
+
+  pub skipped-if-all-below : ((p : ℕ) → p < area c → getD (places c) p 0 < limit) → isSkipped c ≡ true
+  unfolding isSkipped
+  skipped-if-all-below h =
+      ap not
+      (passed-by-none 0 (λ L. leb limit L) (places c) (λ p l. lt-leb limit (getD (places c) p 0) (h p (omega (arith, L-count)))))
+
+  module _ (skips : isSkipped c ≡ true) where
+    pub all-below-if-skipped : (p : ℕ) → p < area c → getD (places c) p 0 < limit
+    unfolding isSkipped
+    all-below-if-skipped p h =
+        leb-false limit (getD (places c) p 0)
+        (none-passes 0 (λ L. leb limit L) (places c) (not-true (some (λ L. leb limit L) (places c)) skips) p (omega (arith, L-count)))
+
+    skipped-magnitudes : magnitudes c ≡ map (λ L. 0) (places c)
+    unfolding magnitudes
+    skipped-magnitudes = rw skips
+
+    skipped-price : priceOf c ≡ 0
+    unfolding priceOf
+    skipped-price = rw skips
+
+    pub skipped-count-and-price : quantAnswer c ≡ coded 0 0
+    skipped-count-and-price =
+        answer-is
+        ∙ ap (λ (n : ℕ). coded n (priceOf c)) (ap nonzeros skipped-magnitudes ∙ none-nonzero (places c))
+        ∙ ap (λ (n : ℕ). coded 0 n) skipped-price
+
+    pub skipped-is-cleared : (p : ℕ) → p < area c → at (quantBuffer c) (placeOf c p) ≡ pos 0
+    skipped-is-cleared p h =
+        level-is p h
+        ∙ ap (signed (at (c .buffer) (placeOf c p)))
+        (ap (λ (l : List ℕ). getD l p 0) skipped-magnitudes ∙ map-at 0 0 (λ L. 0) (places c) p (omega (arith, L-count)))
+        ∙ signed-zero (at (c .buffer) (placeOf c p))

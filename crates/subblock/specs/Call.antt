@@ -1,0 +1,202 @@
+-- `sub_block_tq`: its faults in order, its answer, and what its buffer then holds, as functions of all its inputs. Each component is
+-- a stretch of the one buffer; what is done to it is what the transform and the quantiser alone do.
+use mathlib.Core.Bool.{Bool, _&&_, _||_, cond}
+use mathlib.Core.List.{List, [], _∷_, _++_}
+use Prim.Native.Nat.{ℕ, _+_, _-_, _*_, _/_, _%_, _^_}
+use lib.Dec.{ltb, eqb}
+use lib.ListN.{length, take, drop}
+use lib.IntN.{ℤ}
+use Rattle.refusals.specs.declared.Component.{Component}
+use Rattle.refusals.specs.declared.Component.the-variants.{Y, U, «V»}
+use Rattle.refusals.specs.declared.Refusal.the-variants.{Side, Cost, Length}
+use Rattle.refusals.specs.Numbers.{numberOf, componentOf}
+use Rattle.refusals.specs.Faults.{Fault, ofNone, outside, Verdict, accepted, refused, verdict, ifAccepted}
+use Rattle.transform.specs.Coefficients.{coefficients}
+use Rattle.transform.specs.Call.{Trans}
+use Rattle.transform.specs.Call as trans
+use Rattle.price.specs.declared.Costs.{Costs}
+use Rattle.price.specs.declared.Settings.{Settings}
+use Rattle.price.specs.Costs.{costRefused}
+use Rattle.quantise.specs.Block.{Quant, coding, countOf, priceOf, quantised}
+use Rattle.quantise.specs.Call as quant
+use Rattle.subblock.specs.declared.SubBlockAnswer.{SubBlockAnswer}
+use Rattle.subblock.specs.declared.SubBlockAnswer.the-variants.{Coded, Refused}
+
+-- the inputs: the buffer, luma's log2 sides, each component's settings, the run mask, and what all three share
+pub record SubBlock : Type 0 where
+  pub buffer : List ℤ
+  pub lw : ℕ
+  pub lh : ℕ
+  pub y : Settings
+  pub u : Settings
+  pub v : Settings
+  pub run : ℕ
+  pub intraSlice : Bool
+  pub intraCoded : Bool
+  pub costs : Costs
+
+-- document 01's call has one log2 side
+unfoldable pub called : List ℤ → ℕ → (y u v : Settings) → ℕ → Bool → Bool → Costs → SubBlock
+called buffer l y u v run intraSlice intraCoded t =
+    record {
+      buffer = buffer;
+      lw = l;
+      lh = l;
+      y = y;
+      u = u;
+      v = v;
+      run = run;
+      intraSlice = intraSlice;
+      intraCoded = intraCoded;
+      costs = t;
+    }
+
+-- ---- the components
+-- bits 0, 1, 2 of the run mask are for Y, U, V; other bits mean nothing
+unfoldable pub runs : Component → SubBlock → Bool
+runs k s = eqb (s .run / 2 ^ componentOf k % 2) 1
+
+abbrev pub settingsOf : Component → SubBlock → Settings
+settingsOf Y s = s .y
+settingsOf U s = s .u
+settingsOf «V» s = s .v
+
+-- a component's log2 side, by luma's: chroma's is one less
+abbrev pub sideOf : Component → ℕ → ℕ
+sideOf Y l = l
+sideOf U l = l - 1
+sideOf «V» l = l - 1
+
+-- its block's places, and where its stretch starts
+unfoldable pub area : Component → SubBlock → ℕ
+area k s = 2 ^ sideOf k (s .lw) * 2 ^ sideOf k (s .lh)
+
+unfoldable pub start : Component → SubBlock → ℕ
+unfolding area
+start Y s = 0
+start U s = area Y s
+start «V» s = area Y s + area U s
+
+unfoldable pub stretch : Component → SubBlock → List ℤ
+unfolding area start
+stretch k s = take (area k s) (drop (start k s) (s .buffer))
+
+-- the transform of a stretch, and the quantiser's call on its coefficients
+unfoldable pub transOf : Component → SubBlock → Trans
+unfolding stretch
+transOf k s = record { buffer = stretch k s; lw = sideOf k (s .lw); lh = sideOf k (s .lh) }
+
+unfoldable pub quantOf : Component → SubBlock → Quant
+unfolding transOf coefficients coding
+quantOf k s =
+    let t = transOf k s in
+    coding (coefficients (t .buffer) (t .lw) (t .lh)) (t .lw) (t .lh) k (settingsOf k s) (s .intraSlice) (s .intraCoded) (s .costs)
+
+-- ---- the faults
+unfoldable pub sideFault : Fault SubBlock
+sideFault = record { refusal = Side; component = ofNone; holds = λ s. outside 2 5 (s .lw) || outside 2 5 (s .lh) }
+
+-- every entry is read, whatever runs
+unfoldable pub costFault : Fault SubBlock
+unfolding costRefused
+costFault = record { refusal = Cost; component = ofNone; holds = λ s. costRefused (s .costs) }
+
+-- three components need 3/2 of the luma block, whichever run
+unfoldable pub lengthFault : Fault SubBlock
+unfolding area
+lengthFault = record { refusal = Length; component = ofNone; holds = λ s. ltb (length (s .buffer)) (area Y s * 3 / 2) }
+
+-- a fault of a component's transform or of its quantiser, asked only if the component is run
+unfoldable pub inTrans : Component → Fault Trans → Fault SubBlock
+unfolding runs transOf
+inTrans k f = record { refusal = f .refusal; component = λ s. k; holds = λ s. runs k s && f .holds (transOf k s) }
+
+unfoldable pub inQuant : Component → Fault Quant → Fault SubBlock
+unfolding runs quantOf
+inQuant k f = record { refusal = f .refusal; component = λ s. k; holds = λ s. runs k s && f .holds (quantOf k s) }
+
+unfoldable pub subBlockFaults : List (Fault SubBlock)
+unfolding sideFault costFault lengthFault inTrans inQuant trans.sampleFault quant.qpFault quant.lambdaFault quant.levelFault quant.priceFault quant.distortionFault
+subBlockFaults =
+    sideFault
+    ∷ inQuant Y quant.qpFault
+    ∷ inQuant U quant.qpFault
+    ∷ inQuant «V» quant.qpFault
+    ∷ inQuant Y quant.lambdaFault
+    ∷ inQuant U quant.lambdaFault
+    ∷ inQuant «V» quant.lambdaFault
+    ∷ costFault
+    ∷ lengthFault
+    ∷ inTrans Y trans.sampleFault
+    ∷ inTrans U trans.sampleFault
+    ∷ inTrans «V» trans.sampleFault
+    ∷ inQuant Y quant.levelFault
+    ∷ inQuant Y quant.priceFault
+    ∷ inQuant Y quant.distortionFault
+    ∷ inQuant U quant.levelFault
+    ∷ inQuant U quant.priceFault
+    ∷ inQuant U quant.distortionFault
+    ∷ inQuant «V» quant.levelFault
+    ∷ inQuant «V» quant.priceFault
+    ∷ inQuant «V» quant.distortionFault
+    ∷ []
+
+unfoldable pub subBlockVerdict : SubBlock → Verdict
+unfolding subBlockFaults verdict
+subBlockVerdict s = verdict subBlockFaults s
+
+-- ---- the answer, and the paper's numbers of an answer
+-- 0 and 0 for a component not run
+unfoldable pub count : Component → SubBlock → ℕ
+unfolding runs countOf quantOf
+count k s = let n = countOf (quantOf k s) in cond (runs k s) n 0
+
+unfoldable pub price : Component → SubBlock → ℕ
+unfolding runs priceOf quantOf
+price k s = let n = priceOf (quantOf k s) in cond (runs k s) n 0
+
+pub record Share : Type 0 where
+  pub count : ℕ
+  pub price : ℕ
+
+unfoldable pub share : Component → SubBlock → Share
+unfolding count price
+share k s = record { count = count k s; price = price k s }
+
+pub data Outcome : Type 0 where
+  coded : (y u v : Share) → Outcome
+  refusedWith : (number component : ℕ) → Outcome
+
+abbrev pub outcome : Verdict → (y u v : Share) → Outcome
+outcome accepted y u v = coded y u v
+outcome (refused n c) y u v = refusedWith n c
+
+unfoldable pub subBlockAnswer : SubBlock → Outcome
+unfolding subBlockVerdict share
+subBlockAnswer s =
+    let y = share Y s in
+    let u = share U s in
+    let v = share «V» s in
+    outcome (subBlockVerdict s) y u v
+
+abbrev pub shareOf : Rattle.quantise.specs.declared.Coded.Coded → Share
+shareOf p = record { count = p .count; price = p .price }
+
+abbrev pub paperOf : SubBlockAnswer → Outcome
+paperOf (Coded y u v) = coded (shareOf y) (shareOf u) (shareOf v)
+paperOf (Refused why k) = refusedWith (numberOf why) (componentOf k)
+
+-- ---- the buffer
+-- what a component's stretch then holds; one not run keeps its residuals
+unfoldable pub levels : Component → SubBlock → List ℤ
+unfolding runs quantised quantOf stretch
+levels k s = let c = quantised (quantOf k s) in cond (runs k s) c (stretch k s)
+
+-- the three stretches and the surplus
+unfoldable pub codedBuffer : SubBlock → List ℤ
+unfolding levels start area
+codedBuffer s = levels Y s ++ (levels U s ++ (levels «V» s ++ drop (start «V» s + area «V» s) (s .buffer)))
+
+unfoldable pub subBlockBuffer : SubBlock → List ℤ
+unfolding subBlockVerdict codedBuffer
+subBlockBuffer s = let after = codedBuffer s in ifAccepted (subBlockVerdict s) after (s .buffer)
