@@ -1,0 +1,50 @@
+//! Blocks to compare and to time with: random ones, extreme ones, and such as a label's strokes leave.
+
+pub struct Random(u64);
+
+impl Random {
+    pub fn new(seed: u64) -> Random {
+        Random(seed | 1)
+    }
+
+    pub fn next(&mut self) -> u64 {
+        self.0 ^= self.0 << 13;
+        self.0 ^= self.0 >> 7;
+        self.0 ^= self.0 << 17;
+        self.0
+    }
+
+    pub fn below(&mut self, n: u64) -> u64 {
+        (self.next() >> 11) % n
+    }
+
+    pub fn between(&mut self, low: i64, high: i64) -> i64 {
+        low + self.below((high - low + 1) as u64) as i64
+    }
+
+    /// n accepted residuals: the whole range, small ones, the two limits, or mostly zeros.
+    pub fn residuals(&mut self, n: usize) -> Vec<i16> {
+        let kind = self.below(4);
+        (0..n)
+            .map(|_| match kind {
+                0 => self.between(-1023, 1023) as i16,
+                1 => self.between(-20, 20) as i16,
+                2 => if self.below(2) == 0 { 1023 } else { -1023 },
+                _ => if self.below(12) == 0 { self.between(-1023, 1023) as i16 } else { 0 },
+            })
+            .collect()
+    }
+
+    /// A part of a label under a flat prediction: dark strokes on light ground, w wide.
+    #[allow(dead_code)]
+    pub fn text(&mut self, w: usize, n: usize) -> Vec<i16> {
+        let (pitch, width, ink) = (4 + self.below(6) as usize, 1 + self.below(3) as usize, 300 + self.below(500) as i16);
+        (0..n)
+            .map(|i| {
+                let (x, y) = (i % w, i / w);
+                let stroke = (x + y / 3) % pitch < width || y % (2 * pitch) < width;
+                (if stroke { -ink } else { ink / 4 }) + self.between(-6, 6) as i16
+            })
+            .collect()
+    }
+}
