@@ -1,12 +1,11 @@
 -- How large a sum can be: by the magnitudes of its terms, and a sum of products by its weights and the largest value.
 -- Assumes nothing.
-use mathlib.Core.Path.{_≡_}
+use mathlib.Core.Path.{_≡_, subst, sym}
 use Prim.Native.Nat.{ℕ, zero, suc, _+_, _*_, _<_, _≤_}
-use native.Mathlib.Nat.{mul-le-mul-left, add-mul, le-of-suc-le-suc, eq-or-lt-of-le, le-refl, le-trans, le-add-right}
+use native.Mathlib.Nat.{mul-le-mul-left, add-mul, le-of-suc-le-suc, eq-or-lt-of-le}
 use native.Mathlib.Omega.{arith}
 use mathlib.Core.Logic.{⊎-elim}
-use mathlib.Core.Path.{subst, sym}
-use lib.IntN.{ℤ, natAbs, _+ℤ_, _*ℤ_}
+use lib.IntN.{ℤ, natAbs, _*ℤ_}
 use Rattle.integers.specs.Sum.{sum, sumℤ, sumℕ}
 use Rattle.integers.proofs.Magnitude.{magnitude-+, magnitude-*}
 
@@ -45,3 +44,19 @@ magnitude-dot (suc n) b t x h =
     let k : natAbs (t n) * natAbs (x n) ≤ natAbs (t n) * b = mul-le-mul-left (natAbs (t n)) (h n (omega arith)) in
     omega
     (arith, magnitude-dot n b t x (λ i l. h i (omega arith)), magnitude-+ (sumℤ n (λ i. t i *ℤ x i)) (t n *ℤ x n), magnitude-* (t n) (x n), add-mul (sumℕ n (λ i. natAbs (t i))) (natAbs (t n)) b)
+
+-- the same of naturals: weights w and values c
+pub weighted-within : (n b : ℕ) (w c : ℕ → ℕ) → ((i : ℕ) → i < n → c i ≤ b) → sumℕ n (λ i. w i * c i) ≤ sumℕ n w * b
+unfolding sum
+weighted-within zero b w c h = omega arith
+weighted-within (suc n) b w c h =
+    let k : w n * c n ≤ w n * b = mul-le-mul-left (w n) (h n (omega arith)) in
+    omega (arith, weighted-within n b w c (λ i l. h i (omega arith)), add-mul (sumℕ n w) (w n) b)
+
+-- a sum of products by its magnitudes
+pub magnitude-products : (n : ℕ) (t x : ℕ → ℤ) → natAbs (sumℤ n (λ i. t i *ℤ x i)) ≤ sumℕ n (λ i. natAbs (t i) * natAbs (x i))
+unfolding sum
+magnitude-products zero t x = omega arith
+magnitude-products (suc n) t x =
+    omega
+    (arith, magnitude-products n t x, magnitude-+ (sumℤ n (λ i. t i *ℤ x i)) (t n *ℤ x n), magnitude-* (t n) (x n))

@@ -5,7 +5,7 @@ use mathlib.Core.Path.{_≡_}
 use Prim.Native.Nat.{ℕ, _+_, _*_, _<_, _≤_, _^_}
 use native.Mathlib.Omega.{arith}
 use lib.IntN.{ℤ, pos, negsuc, natAbs, _+ℤ_, _*ℤ_}
-use lib.Signed.{mag, natAbs-le}
+use lib.Signed.{mag, mag-shr, natAbs-le, shrZ}
 use mir.Syntax.{Width}
 use mir.Val.{SFits, hbits, toZ, ofZ}
 use mir.Facts.{toZ-ofZ}
@@ -34,6 +34,14 @@ module _ (w w′ : Width) (z : ℤ) (f : SFits w z) (g : SFits w′ z) where
 
   pub cast-is : toZ w′ (ofZ w′ (toZ w (ofZ w z))) ≡ z
   cast-is = simp toZ-ofZ
+
+-- a shift to the right
+module _ (w : Width) (z : ℤ) (m : ℕ) (f : SFits w z) where
+  pub shift-fits : SFits w (shrZ z m)
+  shift-fits = record { sfits = omega (arith, f .sfits, mag-shr z m) }
+
+  pub shift-is : toZ w (ofZ w (shrZ (toZ w (ofZ w z)) m)) ≡ shrZ z m
+  shift-is = let g = shift-fits in simp toZ-ofZ
 
 -- an operation on two numbers as the machine reads them
 module _ (w : Width) (f : ℤ → ℤ → ℤ) (p q : ℤ) (hp : SFits w p) (hq : SFits w q) (h : SFits w (f p q)) where

@@ -2,11 +2,15 @@ pub mod Parts
 pub mod Ring
 pub mod Magnitude
 pub mod Fit
+pub mod Grid
 pub mod Floor
 pub mod Sums
 pub mod Fold
 pub mod Dot
 pub mod Tests
+pub mod Some
 pub mod Fill
 pub mod Order
 pub mod Lists
+pub mod Over
+pub mod Permutation

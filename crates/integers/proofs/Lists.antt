@@ -1,12 +1,13 @@
--- What stands in a list made from another entry by entry, and in one of which some entry, or none, passes a test.
+-- What stands in a list made from another entry by entry, in one of which some entry, or none, passes a test, and in a part of a list.
 -- Assumes nothing.
 use mathlib.Core.Path.{_≡_, refl}
 use mathlib.Core.Bool.{Bool, true, false, _||_}
 use mathlib.Core.List.{List, [], _∷_, map}
-use Prim.Native.Nat.{ℕ, zero, suc, _<_}
+use Prim.Native.Nat.{ℕ, zero, suc, _+_, _≤_, _<_}
 use native.Mathlib.Nat.{not-suc-le-zero, le-of-suc-le-suc}
 use native.Mathlib.Omega.{arith}
-use lib.ListN.{length, getD}
+use lib.ListN.{length, getD, take, drop}
+use lib.Seq.{take-take}
 use Rattle.integers.specs.Tests.{some}
 use Rattle.integers.proofs.Tests.{neither}
 
@@ -28,3 +29,10 @@ module _ {A : Type 0} (d : A) (f : A → Bool) where
   passed-by-none [] h = refl
   passed-by-none (x ∷ xs) h =
       let e : f x ≡ false = h 0 (omega arith) in rw e (passed-by-none xs (λ k l. h (suc k) (omega arith)))
+
+-- a part that ends in the front is the list's own
+pub part-of-front : {A : Type 0} (a m n : ℕ) (l : List A) → a + m ≤ n → take m (drop a (take n l)) ≡ take m (drop a l)
+part-of-front zero m n l h = take-take m n l (omega arith)
+part-of-front (suc a) m zero l h = absurd (let z : ⊥ = omega arith in z)
+part-of-front (suc a) m (suc n) [] h = refl
+part-of-front (suc a) m (suc n) (x ∷ xs) h = part-of-front a m n xs (omega arith)

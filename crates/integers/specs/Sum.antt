@@ -1,7 +1,8 @@
--- Finite sums f 0 + f 1 + .. + f (n - 1), over whatever can be added: the integers and the naturals here.
+-- Finite sums f 0 + f 1 + .. + f (n - 1), and sums over a list, over whatever can be added: the integers and the naturals here.
 -- One definition serves both, so that each law of sums is stated and proved once (proofs/Sums.antt).
-use mathlib.Core.List.{List}
-use Prim.Native.Nat.{ℕ, zero, suc, _+_}
+use mathlib.Core.Bool.{Bool, false, _||_}
+use mathlib.Core.List.{List, [], _∷_}
+use Prim.Native.Nat.{ℕ, zero, suc, _+_, max}
 use lib.ListN.{getD}
 use lib.IntN.{ℤ, pos, _+ℤ_}
 
@@ -24,6 +25,18 @@ sumℤ n f = sum onℤ n f
 
 abbrev pub sumℕ : ℕ → (ℕ → ℕ) → ℕ
 sumℕ n f = sum onℕ n f
+
+-- the largest of some naturals, and whether some of several hold, are sums too
+abbrev pub onMax : Addition ℕ
+onMax = record { nought = 0; plus = max }
+
+abbrev pub onOr : Addition Bool
+onOr = record { nought = false; plus = _||_ }
+
+-- the sum of f over the entries of a list
+unfoldable pub over : {A B : Type 0} → Addition B → (A → B) → List A → B
+over o f [] = o .nought
+over o f (x ∷ xs) = o .plus (f x) (over o f xs)
 
 -- the list's number at i, 0 past its end
 abbrev pub at : List ℤ → ℕ → ℤ

@@ -1,9 +1,9 @@
 -- The law of the refusals: the verdict is the first fault that holds, and a call without a fault is accepted. Both ways round, so
--- that a verdict and a list of faults say the same.
+-- that a verdict and a list of faults say the same. And two calls with the same faults have one verdict.
 -- Assumes nothing.
 use mathlib.Core.Path.{_≡_, refl}
 use mathlib.Core.Bool.{Bool, true, false, cond, _&&_}
-use mathlib.Core.List.{List, [], _∷_}
+use mathlib.Core.List.{List, [], _∷_, _++_}
 use Prim.Native.Nat.{ℕ, _≤_}
 use native.Mathlib.Omega.{arith}
 use lib.Dec.{leb}
@@ -78,3 +78,31 @@ pub inside : (lo hi n : ℕ) → outside lo hi n ≡ false → (lo ≤ n) × (n 
 inside lo hi n e =
     let b = both (leb lo n) (leb n hi) (not-false (leb lo n && leb n hi) e) in
     (leb-true lo n (b .0), leb-true n hi (b .1))
+
+-- ---- two lists one after the other
+-- the first verdict if it is a refusal, else the second
+abbrev pub orElse : Verdict → Verdict → Verdict
+orElse accepted v = v
+orElse (refused n c) v = refused n c
+
+module _ {I : Type 0} (i : I) where
+  pub verdict-append : (fs gs : List (Fault I)) → verdict (fs ++ gs) i ≡ orElse (verdict fs i) (verdict gs i)
+  unfolding verdict
+  verdict-append [] gs = refl
+  verdict-append (f ∷ fs) gs = split (f .holds i) (verdict-append fs gs)
+    where
+      split : (t : Bool) → verdict (fs ++ gs) i ≡ orElse (verdict fs i) (verdict gs i)
+          → cond t (refused (numberOf (f .refusal)) (componentOf (f .component i))) (verdict (fs ++ gs) i)
+          ≡ orElse (cond t (refused (numberOf (f .refusal)) (componentOf (f .component i))) (verdict fs i)) (verdict gs i)
+      split true e = refl
+      split false e = e
+
+-- two calls of which the same faults hold, for the same components, have one verdict
+pub data Alike {I : Type 0} (i j : I) : List (Fault I) → Type 0 where
+  all : Alike i j []
+  next : {f : Fault I} {fs : List (Fault I)} → f .holds i ≡ f .holds j → f .component i ≡ f .component j → Alike i j fs → Alike i j (f ∷ fs)
+
+pub same-verdict : {I : Type 0} (i j : I) (fs : List (Fault I)) → Alike i j fs → verdict fs i ≡ verdict fs j
+unfolding verdict
+same-verdict i j [] all = refl
+same-verdict i j (f ∷ fs) (next h c a) = rw (h, c, same-verdict i j fs a)

@@ -1,5 +1,7 @@
 // The nine refusals and the three components, by name: no tenth refusal and no fourth component can be named. specs/ has the
 // paper's number for each, and how a call's refusal comes from the list of its faults: it is the first that holds.
+ghost use mathlib.Core.Path.{_≡_};
+ghost use Rattle.refusals.specs.Numbers.{numberOf, componentOf};
 
 pub enum Refusal {
     Side,
@@ -17,4 +19,31 @@ pub enum Component {
     Y,
     U,
     V,
+}
+
+// The paper's number of a refusal, for those who know no names; and of a component.
+pub fn number(why: Refusal) -> u32
+    ensures { λ r. ⌜ r ≡ numberOf why ⌝ }
+{
+    match why {
+        Refusal::Side => 1,
+        Refusal::Qp => 2,
+        Refusal::Lambda => 3,
+        Refusal::Cost => 4,
+        Refusal::Length => 5,
+        Refusal::Sample => 6,
+        Refusal::Level => 7,
+        Refusal::Price => 8,
+        Refusal::Distortion => 9,
+    }
+}
+
+pub fn component_number(component: Component) -> u32
+    ensures { λ r. ⌜ r ≡ componentOf component ⌝ }
+{
+    match component {
+        Component::Y => 0,
+        Component::U => 1,
+        Component::V => 2,
+    }
 }

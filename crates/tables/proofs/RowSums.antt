@@ -1,7 +1,7 @@
--- The magnitudes of a row of the matrix of side N add up to at most 64·N: this bounds every coefficient. One computed test over the
--- sides; rows 0 and N/2 reach it.
+-- The magnitudes of a row of the matrix of side N add up to at most 64·N: this bounds every coefficient; those of the first half of
+-- an odd row to at most 64·N/2. One computed test each over the sides; rows 0 and N/2 reach the first.
 -- Assumes nothing.
-use Prim.Native.Nat.{ℕ, _*_, _^_, _<_, _≤_}
+use Prim.Native.Nat.{ℕ, _+_, _*_, _^_, _<_, _≤_}
 use lib.Dec.{T, leb, leb→le}
 use lib.IntN.{natAbs}
 use mathlib.Core.Bool.{Bool}
@@ -25,3 +25,20 @@ unfolding row-test weight
 row-sum l hl k hk =
     leb→le (weight (2 ^ l) k) (64 * 2 ^ l)
     (all-at (2 ^ l) (λ k. leb (weight (2 ^ l) k) (64 * 2 ^ l)) (all-at 6 row-test computed l hl) k hk)
+
+half-weight : ℕ → ℕ → ℕ
+half-weight h k = sumℕ h (λ n. natAbs (matrix (h + h) (2 * k + 1) n))
+
+half-test : ℕ → Bool
+half-test l = all (2 ^ l) (λ k. leb (half-weight (2 ^ l) k) (64 * 2 ^ l))
+
+halves-computed : T (all 5 half-test)
+unfolding all half-test half-weight sum matrix
+halves-computed = tt
+
+pub half-row-sum : (l : ℕ) → l < 5 → (k : ℕ) → k < 2 ^ l
+    → sumℕ (2 ^ l) (λ n. natAbs (matrix (2 ^ l + 2 ^ l) (2 * k + 1) n)) ≤ 64 * 2 ^ l
+unfolding half-test half-weight
+half-row-sum l hl k hk =
+    leb→le (half-weight (2 ^ l) k) (64 * 2 ^ l)
+    (all-at (2 ^ l) (λ k. leb (half-weight (2 ^ l) k) (64 * 2 ^ l)) (all-at 5 half-test halves-computed l hl) k hk)

@@ -1,4 +1,5 @@
 pub mod Sides
 pub mod Matrix
+pub mod OddRows
 pub mod Scan
 pub mod Scales

@@ -6,6 +6,7 @@ ghost use Rattle.tables.specs.Sides.{startOf};
 
 mod matrices;
 pub mod matrix;
+pub mod odd_rows;
 pub mod scales;
 pub mod scan;
 mod scans;

@@ -58,3 +58,20 @@ pub fn put_at(block: &mut [i16], place: BlockPlace, value: i16)
     let at = place.0;
     block[at] = value;
 }
+
+// The same of a list of magnitudes that stands beside a block, by rows as the block is.
+pub fn magnitude_at(magnitudes: &[u16], place: BlockPlace) -> u16
+    requires { ⌜ place .0 < length (now magnitudes) ⌝ }
+    ensures { λ r. ⌜ r ≡ getD (now (magnitudes .entry)) (place .0) 0 ⌝ }
+{
+    let at = place.0;
+    magnitudes[at]
+}
+
+pub fn put_magnitude(magnitudes: &mut [u16], place: BlockPlace, value: u16)
+    requires { ⌜ place .0 < length (now magnitudes) ⌝ }
+    ensures { λ _. ⌜ now (magnitudes .exit) ≡ set (now (magnitudes .entry)) (place .0) value ⌝ }
+{
+    let at = place.0;
+    magnitudes[at] = value;
+}

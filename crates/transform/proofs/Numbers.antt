@@ -4,7 +4,7 @@ use mathlib.Core.Path.{_≡_, refl}
 use mathlib.Core.List.{List, [], _∷_}
 use Prim.Native.Nat.{ℕ}
 use lib.IntN.{ℤ, pos, negℤ}
-use Rattle.refusals.specs.Faults.{Verdict, accepted, refused}
+use Rattle.refusals.specs.Faults.{accepted, refused}
 use Rattle.transform.specs.Call.{Trans, transVerdict, transBuffer}
 
 -- n, and -n

@@ -19,6 +19,9 @@ pub record Trans : Type 0 where
   pub lw : ℕ
   pub lh : ℕ
 
+abbrev pub called : List ℤ → (lw lh : ℕ) → Trans
+called buffer lw lh = record { buffer = buffer; lw = lw; lh = lh }
+
 unfoldable pub places : Trans → ℕ
 places t = 2 ^ t .lw * 2 ^ t .lh
 

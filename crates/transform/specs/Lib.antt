@@ -1,2 +1,3 @@
 pub mod Coefficients
+pub mod Lines
 pub mod Call

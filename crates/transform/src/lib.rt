@@ -1,8 +1,65 @@
 // The forward transform of a block of residuals.
+use block::side;
+use block::transform;
 use refusals::Refusal;
+ghost use mathlib.Core.Path.{_≡_};
+ghost use Rattle.integers.specs.Tests.{some};
+ghost use Rattle.refusals.specs.Faults.{outside};
+ghost use Rattle.transform.specs.Call.{called, paperOf, transBuffer, transVerdict, wild};
+
+mod block;
+mod butterfly;
+mod stage;
+mod wide;
 
 // An accepted transform answers only that it was accepted; a fault of it belongs to no component.
 pub enum TransAnswer {
     Accepted,
     Refused(Refusal),
+}
+
+fn no_side(log2: usize) -> bool
+    ensures { λ r. ⌜ r ≡ outside 1 5 log2 ⌝ }
+{
+    if log2 < 1 {
+        return true;
+    }
+    5 < log2
+}
+
+// Whether some residual is outside ±1023.
+pub fn has_wild(block: &[i16]) -> bool
+    ensures { λ r. ⌜ r ≡ some wild (now (block .entry)) ⌝ }
+{
+    let n = block.len();
+    let mut found = false;
+    let mut i: usize = 0;
+    while i < n {
+        let v = block[i];
+        found = found | (v < -1023) | (1023 < v);
+        i += 1;
+    }
+    found
+}
+
+// The residuals of a block at the front of the buffer, by rows, become its coefficients.
+pub fn trans(block: &mut [i16], log2_w: usize, log2_h: usize) -> TransAnswer
+    ensures answer { λ r. ⌜ paperOf r ≡ transVerdict (called (now (block .entry)) «log2_w» «log2_h») ⌝ }
+    ensures buffer { λ _. ⌜ now (block .exit) ≡ transBuffer (called (now (block .entry)) «log2_w» «log2_h») ⌝ }
+{
+    if no_side(log2_w) {
+        return TransAnswer::Refused(Refusal::Side);
+    }
+    if no_side(log2_h) {
+        return TransAnswer::Refused(Refusal::Side);
+    }
+    let n = side(log2_w) * side(log2_h);
+    if block.len() < n {
+        return TransAnswer::Refused(Refusal::Length);
+    }
+    if has_wild(&block[..n]) {
+        return TransAnswer::Refused(Refusal::Sample);
+    }
+    transform(&mut block[..n], log2_w, log2_h);
+    TransAnswer::Accepted
 }

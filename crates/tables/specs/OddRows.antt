@@ -1,0 +1,11 @@
+-- The odd rows of the matrix of side 2h as the butterflies read them: their first halves by columns, so that entry n·h + k is
+-- T_2h[2k + 1][n].
+use mathlib.Core.List.{List}
+use Prim.Native.Nat.{ℕ, _+_, _*_, _/_, _%_}
+use lib.IntN.{ℤ}
+use Rattle.integers.specs.Tests.{listed}
+use Rattle.tables.specs.Matrix.{matrix}
+
+unfoldable pub oddRows : ℕ → List ℤ
+unfolding listed matrix
+oddRows h = listed (λ i. matrix (h + h) (2 * (i % h) + 1) (i / h)) 0 (h * h)
