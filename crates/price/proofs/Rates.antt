@@ -4,23 +4,15 @@
 use mathlib.Core.Path.{_≡_, refl}
 use mathlib.Core.Bool.{Bool, true, false, true≢false, _||_}
 use mathlib.Core.List.{List, [], _∷_}
-use Prim.Native.Nat.{ℕ, zero, suc, _+_, _*_, _≤_, _<_, zero-le}
+use Prim.Native.Nat.{ℕ, zero, suc, _+_, _*_, _≤_, zero-le}
 use native.Mathlib.Nat.{mul-le-mul-left}
-use native.Mathlib.Numerals.{add-one}
 use native.Mathlib.Omega.{arith}
-use lib.ListN.{length, drop, getD}
-use lib.Seq.{drop-cons}
+use lib.ListN.{getD}
 use borrow.Author.Tests.{ltb-false}
 use Rattle.integers.specs.Tests.{some}
 use Rattle.integers.proofs.Tests.{neither}
 use Rattle.price.specs.declared.Costs.{Costs}
 use Rattle.price.specs.Costs.{dear, costRefused, InRange, Rows, entry, runRow, rate}
-
--- whether some entry is dear, from place i on: a loop's step
-pub some-from : (table : List ℕ) (i : ℕ) → i < length table
-    → some dear (drop i table) ≡ (dear (getD table i 0) || some dear (drop (i + 1) table))
-unfolding some
-some-from table i h = rw (add-one, drop-cons table i 0)
 
 none-dear : (table : List ℕ) → some dear table ≡ false → (k : ℕ) → getD table k 0 ≤ 1048576
 unfolding some

@@ -50,18 +50,19 @@ pub fn lambda_whole(d: f64) -> u64
     std::num::truncating_f64_to_u64(lambda_sum(d))
 }
 
-// Whether some entry of a table is above the most that a cost may be.
+// Whether some entry of a table is above the most that a cost may be. A loop with one way out is made into vector code.
 fn some_dear(table: &[u64]) -> bool
     ensures { λ r. ⌜ r ≡ some dear (now (table .entry)) ⌝ }
 {
+    let mut found = false;
     let mut i = 0;
     while i < table.len() {
         if 1048576 < table[i] {
-            return true;
+            found = true;
         }
         i += 1;
     }
-    false
+    found
 }
 
 // 4 COST.

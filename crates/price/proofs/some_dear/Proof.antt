@@ -1,25 +1,24 @@
--- `price::some_dear` meets its contract. The loop's invariant: whether some entry is dear is decided from place i on.
+-- `price::some_dear` meets its contract. The loop's invariant: what was found, or is still to be found from place i on.
 -- Assumes nothing.
-use mathlib.Core.Path.{_≡_, refl, sym, _∙_}
-use mathlib.Core.Bool.{true, false}
+use mathlib.Core.Path.{_≡_, refl, sym, ap, _∙_}
+use mathlib.Core.Logic.{⊎-elim}
+use mathlib.Core.Bool.{Bool, true, false, _||_}
 use Prim.Native.Nat.{_≤_, _-_}
 use native.Mathlib.Omega.{arith}
-use denote.Ref.{now}
 use lib.ListN.{length, drop, getD}
-use lib.Seq.{drop-length}
 use borrow.Author.Needs.{needs}
 use borrow.Author.Tests.{lt-ltb, le-ltb}
-use Rattle.integers.specs.Tests.{some}
+use Rattle.integers.specs.Sum.{over, onOr}
+use Rattle.integers.proofs.Over.{tests, some-over, over-next, over-end}
 use Rattle.price.specs.Costs.{dear}
-use Rattle.price.proofs.Rates.{some-from}
 use Rattle.price.proofs.some_dear.Statement.{statement}
 use Rattle.price.proofs.some_dear.Tie as tie
 
 abbrev Inv-loop : tie.InvT-loop
-Inv-loop table i₀ i = (i ≤ length table) × (some dear table ≡ some dear (drop i table))
+Inv-loop table found₀ i₀ found i = (i ≤ length table) × ((found || over onOr dear (drop i table)) ≡ over onOr dear table)
 
 abbrev μ-loop : tie.MeasureT-loop
-μ-loop table i₀ i = length table - i
+μ-loop table found₀ i₀ found i = length table - i
 
 loop-holds : tie.Need-loop-holds Inv-loop μ-loop
 loop-holds c = (search needs, refl)
@@ -30,12 +29,13 @@ mul-if1 c = search needs
 shared-slice-read-if1 : tie.Need-shared-slice-read-if1 Inv-loop μ-loop
 shared-slice-read-if1 c = search needs
 
-returns : tie.Need-returns Inv-loop μ-loop
-returns c =
-    let l = c .before .before .before .loop in
-    let table = now (c .before .before .before .before .args .table) in
-    let is : dear (getD table (l .i) 0) ≡ true = lt-ltb _ _ (c .if1 .taken) in
-    sym (l .inv .1 ∙ some-from table (l .i) (omega arith) ∙ rw is)
+or-true : (t : Bool) → true ≡ (t || true)
+or-true true = refl
+or-true false = refl
+
+or-false : (t : Bool) → t ≡ (t || false)
+or-false true = refl
+or-false false = refl
 
 add-i : tie.Need-add-i Inv-loop μ-loop
 add-i c = search needs
@@ -45,18 +45,18 @@ loop-less c = search needs
 
 loop-again : tie.Need-loop-again Inv-loop μ-loop
 loop-again c =
+    let table = c .before .before .before .before .args .table .now in
     let l = c .before .before .before .loop in
-    let table = now (c .before .before .before .before .args .table) in
-    let not : dear (getD table (l .i) 0) ≡ false = le-ltb _ _ (c .if1 .left) in
-    (search needs, l .inv .1 ∙ some-from table (l .i) (omega arith) ∙ rw not)
+    let found : c .if1 .found ≡ (l .found || dear (getD table (l .i) 0)) =
+    ⊎-elim (λ w. w .1 ∙ or-true (l .found) ∙ ap (λ (t : Bool). l .found || t) (sym (lt-ltb _ _ (w .0 .taken))))
+    (λ w. w .1 ∙ or-false (l .found) ∙ ap (λ (t : Bool). l .found || t) (sym (le-ltb _ _ (w .0 .left)))) (c .if1 .came) in
+    (search needs, rw found (over-next tests dear table (l .i) 0 (l .found) (c .before .before .loop-test .taken) ∙ l .inv .1))
 
-returns-2 : tie.Need-returns-2 Inv-loop μ-loop
-unfolding some
-returns-2 c =
+returns : tie.Need-returns Inv-loop μ-loop
+returns c =
+    let table = c .before .before .args .table .now in
     let l = c .before .loop in
-    let table = now (c .before .before .args .table) in
-    let end : l .i ≡ length table = omega arith in
-    sym (l .inv .1 ∙ rw (end, drop-length))
+    sym (over-end tests dear table (l .i) (l .found) (c .loop-test .left)) ∙ l .inv .1 ∙ sym (some-over dear table)
 
 pub some-dear-spec : {M : Type 1} → statement M
 some-dear-spec =
@@ -67,8 +67,7 @@ some-dear-spec =
     loop-holds
     mul-if1
     shared-slice-read-if1
-    returns
     add-i
     loop-less
     loop-again
-    returns-2)
+    returns)

@@ -1,0 +1,162 @@
+-- The levels of a block, by all that is proved of keeping, walking, cutting and signing: code leaves the block that the definition lays
+-- along the scan, and answers its count and its price. Assumes nothing.
+use mathlib.Core.Path.{_≡_, refl, sym, ap, subst, _∙_}
+use mathlib.Core.Logic.{⊎-elim}
+use mathlib.Core.Bool.{Bool, true, false, cond}
+use mathlib.Core.List.{List, map}
+use Prim.Native.Nat.{ℕ, _+_, _-_, _*_, _^_, _≤_, _<_}
+use native.Mathlib.Nat.{mul-le-mul, zero-mul}
+use native.Mathlib.Omega.{arith}
+use lib.Dec.{leb}
+use lib.Pow.{pow-mono, pow-pos}
+use lib.ListN.{length, getD, length-map, List·getD-eq-default}
+use lib.IntN.{ℤ, pos, natAbs}
+use borrow.Author.Tests.{leb-true}
+use Rattle.integers.specs.Sum.{at}
+use Rattle.integers.proofs.Order.{below-or-not}
+use Rattle.tables.specs.Scan.{scan, square}
+use Rattle.tables.proofs.OneToOne.{scan-length, square-length}
+use Rattle.price.specs.Level.{scaled, magnitude}
+use Rattle.price.specs.Rule.{Rule, isZero}
+use Rattle.price.specs.Price.{uncoded, nonzeros, price}
+use Rattle.price.specs.Walk.{walked, cutAt, cutOf, written}
+use Rattle.price.specs.OnePass.{Totals, start, walk}
+use Rattle.price.proofs.OnePass.{one-pass-cut, one-pass-price}
+use Rattle.price.proofs.Promises.{written-length, written-zero-or-m-or-m-1}
+use Rattle.quantise.specs.declared.scale.Scale.{Scale}
+use Rattle.quantise.specs.declared.prices.Prices.{Prices}
+use Rattle.quantise.specs.declared.walk.Walk.{Walk}
+use Rattle.quantise.specs.Block.{signs}
+use Rattle.quantise.specs.Code.{Fine, ruleBy, totalsOf, keptOf, keptPlaces, Scanned, Begins, Standing, CutOver, inOrder, placesBy, Codable, CodedAs}
+use Rattle.quantise.proofs.Lists.{map-at}
+use Rattle.quantise.proofs.Steps.{allowed-below}
+use Rattle.quantise.proofs.Reaching.{magnitude-of-0}
+use Rattle.quantise.proofs.Keeping.{kept-some, kept-places, same-walk, same-walked, kept-uncoded}
+use Rattle.quantise.proofs.Signing.{same-count, same-block, everywhere}
+
+-- ---- a square block
+module _ (l : ℕ) (hi : l ≤ 5) where
+  pub area-range : 2 ^ l * 2 ^ l ≤ 1024
+  area-range = let h = pow-mono {i = l} {j = 5} hi in omega (arith, mul-le-mul h h)
+
+  pub area-is : 4 ^ l ≡ 2 ^ l * 2 ^ l
+  unfolding square
+  area-is = sym (square-length l hi) ∙ scan-length l l hi hi
+
+  pub scan-held : (side : ℕ) (held : List ℕ) → side ≡ 2 ^ l → held ≡ square l → Scanned side held
+  unfolding square
+  scan-held side held e h =
+      record {
+        is = h ∙ ap (λ (k : ℕ). scan k k) (sym e);
+        some = omega (arith, pow-pos l);
+        full = ap (λ (k : ℕ). length (scan k k)) e ∙ scan-length l l hi hi ∙ ap (λ (k : ℕ). k * k) (sym e);
+        few = omega (arith, area-range, ap (λ (k : ℕ). k * k) e);
+      }
+
+-- ---- the walk begins with D and the flags
+abbrev pub firstWalk : Prices → ℕ → Walk
+firstWalk p d = record { base = d + p .coded; best = d + p .empty; cut = 0; prev = 1 }
+
+module _ (p : Prices) (g : Scale) (side : ℕ) (block : List ℤ) (d : ℕ) (held : List ℕ) (sc : Scanned side held)
+    (c : Codable p g side block d) (kept : List ℕ) (room : length kept ≡ side * side)
+    (as-kept : (k : ℕ) → k < side * side → getD kept k 0 ≡ keptOf g (at block k)) where
+  abbrev r : Rule
+  r = ruleBy p g
+
+  abbrev zs : List ℤ
+  zs = inOrder side block
+
+  abbrev ps : List ℕ
+  ps = placesBy g side block
+
+  places-are : keptPlaces g side kept ≡ map (λ z. keptOf g z * g .q) zs
+  places-are = kept-places g side held sc block kept as-kept
+
+  -- what holds of 0 and of every coefficient kept holds of all that is kept
+  of-kept : (P : ℕ → Type 0) → P 0 → ((k : ℕ) → g .least ≤ natAbs (at block k) → P (natAbs (at block k))) → (k : ℕ) → P (getD kept k 0)
+  of-kept P none some k =
+      ⊎-elim (λ (h : k < side * side). subst P (sym (as-kept k h)) (go (leb (g .least) (natAbs (at block k))) refl))
+      (λ (h : side * side ≤ k). subst P (sym (List·getD-eq-default kept 0 (omega arith))) none)
+      (below-or-not k (side * side))
+    where
+      go : (t : Bool) → leb (g .least) (natAbs (at block k)) ≡ t → P (cond t (natAbs (at block k)) 0)
+      go true e = some k (leb-true (g .least) (natAbs (at block k)) e)
+      go false e = none
+
+  nothing-fine : Fine p g (0 * g .q)
+  nothing-fine =
+      let z : magnitude (g .shift) (0 * g .q) ≡ 0 = ap (magnitude (g .shift)) (zero-mul (g .q)) ∙ magnitude-of-0 (g .shift) (omega (arith, c .sound .low)) in
+      record {
+        near = omega (arith, ap (λ (x : ℕ). x * g .error) (zero-mul (g .q)), zero-mul (g .error));
+        level = omega arith;
+        price = omega (arith, ap (λ (x : ℕ). x * p .each) z, zero-mul (p .each));
+      }
+
+  pub begins : Begins p g (firstWalk p d) side kept
+  unfolding scaled
+  begins =
+      record {
+        modest = c .modest;
+        sound = c .sound;
+        room = room;
+        fine = of-kept (λ (a : ℕ). Fine p g (a * g .q)) nothing-fine (λ k h. c .fine k);
+        some =
+            of-kept (λ (a : ℕ). 1 ≤ a → 1 ≤ magnitude (g .shift) (a * g .q)) (λ h. absurd (omega arith))
+            (λ k h o. kept-some g (c .sound) (natAbs (at block k)) h);
+        left = omega (arith, ap (uncoded r) places-are, kept-uncoded g (c .sound) p (c .modest) zs, c .is);
+        base = omega (arith, c .small, c .modest .coded);
+      }
+
+  started : totalsOf (firstWalk p d) ≡ start r ps
+  unfolding start ruleBy
+  started = rw (c .is)
+
+  over-block : walk r 0 (totalsOf (firstWalk p d)) (keptPlaces g side kept) ≡ walk r 0 (start r ps) ps
+  over-block =
+      ap (walk r 0 (totalsOf (firstWalk p d))) places-are
+      ∙ same-walk g (c .sound) p (c .modest) 0 (totalsOf (firstWalk p d)) zs (omega (arith, c .is))
+      ∙ ap (λ (w : Totals). walk r 0 w ps) started
+
+  walked-block : walked r (isZero 1) (keptPlaces g side kept) ≡ walked r false ps
+  walked-block = ap (walked r false) places-are ∙ same-walked g (c .sound) p (c .modest) false zs
+
+  module _ (levels : List ℕ) (x : ℕ) (o : CutOver p g (firstWalk p d) side kept levels x) where
+    ls : List ℕ
+    ls = written r ps
+
+    long : length ls ≡ side * side
+    unfolding ls
+    long = written-length r ps ∙ length-map zs (λ z. scaled (g .q) z) ∙ length-map (scan side side) (λ k. at block k) ∙ sc .full
+
+    standing : Standing side levels ls
+    unfolding ls written
+    standing =
+        subst (Standing side levels)
+        (ap (λ (w : Totals). cutAt (w .cut) (walked r (isZero 1) (keptPlaces g side kept))) over-block
+        ∙ ap (λ (k : ℕ). cutAt k (walked r (isZero 1) (keptPlaces g side kept))) (one-pass-cut r ps)
+        ∙ ap (cutAt (cutOf r ps)) walked-block)
+        (o .levels)
+
+    small : (k : ℕ) → k < side * side → getD ls k 0 ≤ 32767
+    unfolding ls ruleBy
+    small k h =
+        let n : length ps ≡ side * side = length-map zs (λ z. scaled (g .q) z) ∙ length-map (scan side side) (λ k. at block k) ∙ sc .full in
+        let m : length zs ≡ side * side = length-map (scan side side) (λ k. at block k) ∙ sc .full in
+        let e : getD ps k 0 ≡ scaled (g .q) (at block (getD (scan side side) k 0)) =
+        map-at (λ z. scaled (g .q) z) zs k (pos 0) 0 (omega arith)
+        ∙ ap (λ (z : ℤ). scaled (g .q) z) (map-at (λ k. at block k) (scan side side) k 0 (pos 0) (omega (arith, sc .full))) in
+        let a = allowed-below _ _ (written-zero-or-m-or-m-1 r ps k (omega arith)) in
+        omega (arith, c .fine (getD (scan side side) k 0) .level, ap (magnitude (g .shift)) e)
+
+    pub level-small : (k : ℕ) → getD levels k 0 ≤ 32767
+    level-small = everywhere side held sc ls long levels (o .room) standing (λ (a : ℕ). a ≤ 32767) (omega arith) small
+
+    pub coded-as : (after : List ℤ) (n : ℕ) → after ≡ signs block levels → n ≡ nonzeros levels
+        → CodedAs p g side block after (record { count = n; price = x })
+    unfolding ls
+    coded-as after n e f =
+        record {
+          buffer = e ∙ same-block side held sc ls long levels (o .room) standing block (c .room);
+          count = f ∙ same-count side held sc ls long levels (o .room) standing;
+          price = o .price ∙ ap (λ (w : Totals). w .best) over-block ∙ one-pass-price r ps;
+        }

@@ -1,0 +1,163 @@
+-- Magnitudes whose m is 0 need not be kept: such a place is passed whatever stands there, so that the walk over what is kept is the
+-- walk over the block, and what is kept leaves no more of D. Assumes nothing.
+use mathlib.Core.Path.{_≡_, refl, sym, ap, subst, _∙_}
+use mathlib.Core.Bool.{Bool, true, false}
+use mathlib.Core.List.{List, [], _∷_, map}
+use Prim.Native.Nat.{ℕ, zero, suc, _+_, _-_, _*_, _/_, _^_, _≤_, _<_}
+use native.Mathlib.Nat.{mul-le-mul-right, lt-div-mul-add, div-mul-le-self, suc-mul, zero-mul, div-eq-of-lt, le-div-iff-mul-le}
+use native.Mathlib.Omega.{arith}
+use lib.Dec.{leb}
+use lib.Pow.{pow-pos}
+use lib.ListN.{length, getD, length-map}
+use lib.Seq.{ext-getD}
+use lib.IntN.{ℤ, pos, natAbs}
+use borrow.Author.Tests.{leb-false, le-leb, lt-leb}
+use Rattle.integers.specs.Sum.{at}
+use Rattle.tables.specs.Scan.{scan, scanAt}
+use Rattle.tables.proofs.OneToOne.{scan-inside}
+use Rattle.price.specs.Level.{scaled, magnitude, distortion}
+use Rattle.price.specs.Rule.{isZero}
+use Rattle.price.specs.Price.{uncoded}
+use Rattle.price.specs.Walk.{chosen, walked}
+use Rattle.price.specs.OnePass.{Totals, step, walk}
+use Rattle.price.proofs.Tail.{quiet-chosen}
+use Rattle.price.proofs.Level.{distortion-of-0}
+use Rattle.price.proofs.Bounds.{step-within}
+use Rattle.quantise.specs.declared.scale.Scale.{Scale}
+use Rattle.quantise.specs.declared.prices.Prices.{Prices}
+use Rattle.quantise.specs.Code.{Sound, Modest, ruleBy, rateBy, keptOf, keptPlaces, Scanned, inOrder}
+use Rattle.quantise.proofs.Lists.{map-at}
+use Rattle.quantise.proofs.Reaching.{magnitude-of-0}
+use Rattle.quantise.proofs.Weighing.{quiet}
+
+pub kept-yes : (g : Scale) (z : ℤ) (a v : ℕ) → a ≡ natAbs z → g .least ≤ a → v ≡ a → v ≡ keptOf g z
+kept-yes g z a v e h q =
+    let t = le-leb (g .least) (natAbs z) (subst (λ (k : ℕ). g .least ≤ k) e h) in rw t (q ∙ e)
+
+pub kept-no : (g : Scale) (z : ℤ) (a v : ℕ) → a ≡ natAbs z → a < g .least → v ≡ 0 → v ≡ keptOf g z
+kept-no g z a v e h q = let t = lt-leb (g .least) (natAbs z) (subst (λ (k : ℕ). k < g .least) e h) in rw t q
+
+module _ (g : Scale) (s : Sound g) where
+  -- from the least magnitude on m is above 0, and not before
+  pub kept-some : (a : ℕ) → g .least ≤ a → 1 ≤ magnitude (g .shift) (a * g .q)
+  unfolding magnitude
+  kept-some a h =
+      let x : g .half + g .q - 1 < (g .half + g .q - 1) / g .q * g .q + g .q = lt-div-mul-add (s .some-q) in
+      let y : g .least * g .q ≤ a * g .q = mul-le-mul-right (g .q) h in
+      le-div-iff-mul-le (pow-pos (g .shift)) .1
+      (omega (arith, s .half, s .unit, s .twice, ap (λ (k : ℕ). k * g .q) (s .least)))
+
+  dropped : (a : ℕ) → a < g .least → magnitude (g .shift) (a * g .q) ≡ 0
+  unfolding magnitude
+  dropped a h =
+      let x : (g .half + g .q - 1) / g .q * g .q ≤ g .half + g .q - 1 = div-mul-le-self (g .half + g .q - 1) (g .q) in
+      let y : suc a * g .q ≤ g .least * g .q = mul-le-mul-right (g .q) h in
+      div-eq-of-lt (omega (arith, s .half, s .unit, s .twice, suc-mul a (g .q), ap (λ (k : ℕ). k * g .q) (s .least), pow-pos (g .shift), s .some-q))
+
+  -- a coefficient is kept as it is, or its m is 0 and nothing is kept
+  data Keeps (z : ℤ) : Type 0 where
+    whole : keptOf g z * g .q ≡ scaled (g .q) z → Keeps z
+    nothing : keptOf g z * g .q ≡ 0 → magnitude (g .shift) (scaled (g .q) z) ≡ 0 → Keeps z
+
+  keeps : (z : ℤ) → Keeps z
+  unfolding scaled
+  keeps z = go (leb (g .least) (natAbs z)) refl
+    where
+      go : (t : Bool) → leb (g .least) (natAbs z) ≡ t → Keeps z
+      go true e = whole (rw e)
+      go false e = nothing (rw e (zero-mul (g .q))) (dropped (natAbs z) (leb-false (g .least) (natAbs z) e))
+
+  module _ (p : Prices) (m : Modest p) where
+    nothing-uncoded : (ruleBy p g) .dist 0 0 ≡ 0
+    unfolding ruleBy
+    nothing-uncoded = distortion-of-0 (g .shift) (g .error) 0 ∙ ap (λ (x : ℕ). x / 2 ^ 20 * (x / 2 ^ 20)) (zero-mul (g .error))
+
+    top-is : (L : ℕ) → (ruleBy p g) .top L ≡ magnitude (g .shift) L
+    unfolding ruleBy
+    top-is L = refl
+
+    free : (z : Bool) → (ruleBy p g) .rate z 0 ≤ 2 ^ 48
+    unfolding ruleBy rateBy
+    free true = m .zeros
+    free false = m .zero
+
+    dist-is : (L : ℕ) → (ruleBy p g) .dist L 0 ≡ distortion (g .shift) (g .error) L 0
+    unfolding ruleBy
+    dist-is L = refl
+
+    none-top : (ruleBy p g) .top 0 ≡ 0
+    none-top = top-is 0 ∙ magnitude-of-0 (g .shift) (omega (arith, s .low))
+
+    same-step : (n : ℕ) (w : Totals) (z : ℤ) → (ruleBy p g) .dist (scaled (g .q) z) 0 ≤ w .base
+        → step (ruleBy p g) n w (keptOf g z * g .q) ≡ step (ruleBy p g) n w (scaled (g .q) z)
+    same-step n w z h = go (keeps z)
+      where
+        go : Keeps z → step (ruleBy p g) n w (keptOf g z * g .q) ≡ step (ruleBy p g) n w (scaled (g .q) z)
+        go (whole e) = ap (step (ruleBy p g) n w) e
+        go (nothing e q) =
+            ap (step (ruleBy p g) n w) e
+            ∙ quiet p g n w 0 (sym (top-is 0) ∙ none-top) (omega (arith, dist-is 0, nothing-uncoded))
+            ∙ sym (quiet p g n w (scaled (g .q) z) q (omega (arith, dist-is (scaled (g .q) z))))
+
+    same-chosen : (b : Bool) (z : ℤ) → chosen (ruleBy p g) b (keptOf g z * g .q) ≡ chosen (ruleBy p g) b (scaled (g .q) z)
+    same-chosen b z = go (keeps z)
+      where
+        go : Keeps z → chosen (ruleBy p g) b (keptOf g z * g .q) ≡ chosen (ruleBy p g) b (scaled (g .q) z)
+        go (whole e) = ap (chosen (ruleBy p g) b) e
+        go (nothing e q) =
+            ap (chosen (ruleBy p g) b) e
+            ∙ quiet-chosen (ruleBy p g) b 0 none-top
+            ∙ sym (quiet-chosen (ruleBy p g) b (scaled (g .q) z) (top-is (scaled (g .q) z) ∙ q))
+
+    abbrev kept : ℤ → ℕ
+    kept z = keptOf g z * g .q
+
+    abbrev full : ℤ → ℕ
+    full z = scaled (g .q) z
+
+    pub same-walk : (n : ℕ) (w : Totals) (zs : List ℤ) → uncoded (ruleBy p g) (map full zs) ≤ w .base
+        → walk (ruleBy p g) n w (map kept zs) ≡ walk (ruleBy p g) n w (map full zs)
+    unfolding walk uncoded
+    same-walk n w [] h = refl
+    same-walk n w (z ∷ zs) h =
+        let e = same-step n w z (omega arith) in
+        let i = step-within (ruleBy p g) (2 ^ 48) free n w (full z) (uncoded (ruleBy p g) (map full zs)) h in
+        ap (λ (v : Totals). walk (ruleBy p g) (suc n) v (map kept zs)) e
+        ∙ same-walk (suc n) (step (ruleBy p g) n w (full z)) zs (i .0)
+
+    pub same-walked : (b : Bool) (zs : List ℤ) → walked (ruleBy p g) b (map kept zs) ≡ walked (ruleBy p g) b (map full zs)
+    unfolding walked
+    same-walked b [] = refl
+    same-walked b (z ∷ zs) =
+        let e = same-chosen b z in
+        ap (λ (a : ℕ). a ∷ walked (ruleBy p g) (isZero a) (map kept zs)) e
+        ∙ ap (λ (l : List ℕ). chosen (ruleBy p g) b (full z) ∷ l) (same-walked (isZero (chosen (ruleBy p g) b (full z))) zs)
+
+    kept-less : (z : ℤ) → (ruleBy p g) .dist (kept z) 0 ≤ (ruleBy p g) .dist (full z) 0
+    kept-less z = go (keeps z)
+      where
+        go : Keeps z → (ruleBy p g) .dist (kept z) 0 ≤ (ruleBy p g) .dist (full z) 0
+        go (whole e) = omega (arith, ap (λ (L : ℕ). (ruleBy p g) .dist L 0) e)
+        go (nothing e q) = omega (arith, ap (λ (L : ℕ). (ruleBy p g) .dist L 0) e, nothing-uncoded)
+
+    pub kept-uncoded : (zs : List ℤ) → uncoded (ruleBy p g) (map kept zs) ≤ uncoded (ruleBy p g) (map full zs)
+    unfolding uncoded
+    kept-uncoded [] = omega arith
+    kept-uncoded (z ∷ zs) = omega (arith, kept-less z, kept-uncoded zs)
+
+-- the places of what is kept by rows
+pub kept-places : (g : Scale) (side : ℕ) (held : List ℕ) → Scanned side held → (block : List ℤ) (kept : List ℕ)
+    → ((k : ℕ) → k < side * side → getD kept k 0 ≡ keptOf g (at block k)) → keptPlaces g side kept ≡ map (λ z. keptOf g z * g .q) (inOrder side block)
+unfolding scanAt
+kept-places g side held sc block kept h =
+    ext-getD 0 (keptPlaces g side kept) (map (λ z. keptOf g z * g .q) (inOrder side block))
+    (length-map (scan side side) (λ p. getD kept p 0 * g .q)
+    ∙ sym (length-map (inOrder side block) (λ z. keptOf g z * g .q) ∙ length-map (scan side side) (λ p. at block p)))
+    (λ k l.
+    let i : k < length (scan side side) = omega (arith, length-map (scan side side) (λ p. getD kept p 0 * g .q)) in
+    let b = scan-inside side side (sc .some) (sc .some) k i in
+    map-at (λ p. getD kept p 0 * g .q) (scan side side) k 0 0 i
+    ∙ ap (λ (a : ℕ). a * g .q) (h (scanAt side side k) b)
+    ∙ sym
+    (map-at (λ z. keptOf g z * g .q) (inOrder side block) k (pos 0) 0 (omega (arith, length-map (scan side side) (λ p. at block p)))
+    ∙ ap (λ (z : ℤ). keptOf g z * g .q) (map-at (λ p. at block p) (scan side side) k 0 (pos 0) i)))

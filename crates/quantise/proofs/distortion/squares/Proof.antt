@@ -1,0 +1,123 @@
+-- `quantise::distortion::squares` meets its contract: an error by two 32-bit products, and its square.
+-- Assumes nothing.
+use mathlib.Core.Path.{_≡_, sym, ap, _∙_}
+use Prim.Native.Nat.{_≤_, _*_, _+_, _-_, _^_}
+use native.Mathlib.Omega.{arith}
+use lib.ListN.{length, getD, drop}
+use lib.IntN.{pos, natAbs}
+use mir.Syntax.{w16}
+use mir.Val.{SFits}
+use mir.Facts.{toZ-ofZ}
+use borrow.Author.Needs.{needs, sfits-of}
+use Rattle.integers.specs.Sum.{over, onℕ}
+use Rattle.integers.proofs.Sums.{nats}
+use Rattle.integers.proofs.Over.{over-next, over-end}
+use Rattle.quantise.specs.Code.{zeroDistortion}
+use Rattle.quantise.proofs.Uncoding.{zeroError, Parts, parts, zero-distortion}
+use Rattle.quantise.proofs.distortion.squares.Statement.{statement}
+use Rattle.quantise.proofs.distortion.squares.Tie as tie
+
+abbrev Inv-loop : tie.InvT-loop
+Inv-loop part g sum₀ i₀ sum i =
+    (i ≤ length part) × (sum + over onℕ (zeroDistortion g) (drop i part) ≡ over onℕ (zeroDistortion g) part) × (sum ≤ i * 2 ^ 58)
+
+abbrev μ-loop : tie.MeasureT-loop
+μ-loop part g sum₀ i₀ sum i = length part - i
+
+loop-holds : tie.Need-loop-holds Inv-loop μ-loop
+loop-holds c = (omega arith, omega arith, omega arith)
+
+mul-magnitude : tie.Need-mul-magnitude Inv-loop μ-loop
+mul-magnitude c = search needs
+
+shared-slice-copy-out-magnitude : tie.Need-shared-slice-copy-out-magnitude Inv-loop μ-loop
+shared-slice-copy-out-magnitude c = omega arith
+
+magnitude-requires : tie.Need-magnitude-requires Inv-loop μ-loop
+magnitude-requires c κs = search needs
+
+got : (c : tie.After-magnitude Inv-loop μ-loop)
+    → (let z = getD (c .before .before .before .before .args .part .now) (c .before .before .before .loop .i) (pos 0) in
+    (c .magnitude .result ≡ natAbs z) × SFits w16 z)
+got c =
+    let z = getD (c .before .before .before .before .args .part .now) (c .before .before .before .loop .i) (pos 0) in
+    let f : SFits w16 z = sfits-of (c .before .magnitude-arg .given) in
+    (c .magnitude .ensures .0 ∙ ap natAbs (toZ-ofZ {w = w16} {z = z} f), f)
+
+bounds : (c : tie.After-magnitude Inv-loop μ-loop) → Parts (c .before .before .before .before .args .g) (c .magnitude .result)
+bounds c =
+    let s = c .before .before .before .before in
+    parts (s .args .g) (s .pre .0) (c .magnitude .result) (rw (got c .0) (s .pre .2 (c .before .before .before .loop .i)))
+
+mul-x : tie.Need-mul-x Inv-loop μ-loop
+mul-x c = record { fits = omega (arith, bounds (c .before) .first) }
+
+mul-x-2 : tie.Need-mul-x-2 Inv-loop μ-loop
+mul-x-2 c = record { fits = omega (arith, bounds (c .before .before) .second) }
+
+add-x : tie.Need-add-x Inv-loop μ-loop
+add-x c = record { fits = omega (arith, bounds (c .before .before) .second) }
+
+sub-x : tie.Need-sub-x Inv-loop μ-loop
+sub-x c = bounds (c .before .before) .room
+
+cast-x : tie.Need-cast-x Inv-loop μ-loop
+cast-x c = record { fits = omega (arith, bounds (c .before .before) .error) }
+
+mul-sum : tie.Need-mul-sum Inv-loop μ-loop
+mul-sum c = record { fits = omega (arith, bounds (c .before .before) .square) }
+
+add-sum : tie.Need-add-sum Inv-loop μ-loop
+add-sum c =
+    let s = c .before .before .before .before .before .before in
+    let l = c .before .before .before .before .before .loop in
+    record { fits = omega (arith, bounds (c .before .before) .square, l .inv .2, s .pre .1, c .before .before .before .before .loop-test .taken) }
+
+add-i : tie.Need-add-i Inv-loop μ-loop
+add-i c = omega arith
+
+loop-less : tie.Need-loop-less Inv-loop μ-loop
+loop-less c = omega arith
+
+loop-again : tie.Need-loop-again Inv-loop μ-loop
+loop-again c =
+    let s = c .before .before .before .before .before .before in
+    let l = c .before .before .before .before .before .loop in
+    let lt = c .before .before .before .before .loop-test .taken in
+    let z = getD (s .args .part .now) (l .i) (pos 0) in
+    let e : zeroError (s .args .g) (c .before .before .magnitude .result) * zeroError (s .args .g) (c .before .before .magnitude .result) ≡ zeroDistortion (s .args .g) z =
+    rw (got (c .before .before) .0) (zero-distortion (s .args .g) (s .pre .0) z) in (
+      omega arith,
+      rw e (over-next nats (zeroDistortion (s .args .g)) (s .args .part .now) (l .i) (pos 0) (l .sum) lt ∙ l .inv .1),
+      omega (arith, bounds (c .before .before) .square, l .inv .2),
+    )
+
+returns : tie.Need-returns Inv-loop μ-loop
+returns c =
+    let s = c .before .before in
+    let l = c .before .loop in (
+      sym (over-end nats (zeroDistortion (s .args .g)) (s .args .part .now) (l .i) (l .sum) (c .loop-test .left)) ∙ l .inv .1,
+      omega (arith, l .inv .2, l .inv .0, s .pre .1),
+    )
+
+pub squares-spec : {M : Type 1} → statement M
+squares-spec =
+    tie.close
+    (tie.spec
+    Inv-loop
+    μ-loop
+    loop-holds
+    mul-magnitude
+    shared-slice-copy-out-magnitude
+    magnitude-requires
+    mul-x
+    mul-x-2
+    add-x
+    sub-x
+    cast-x
+    mul-sum
+    add-sum
+    add-i
+    loop-less
+    loop-again
+    returns)

@@ -1,0 +1,147 @@
+-- `quantise::quant_nnz` meets its contract: 1 to 5 in order, then the block in its part of the buffer.
+-- Assumes nothing.
+use mathlib.Core.Path.{_≡_, sym, ap, _∙_}
+use mathlib.Core.Bool.{true, false}
+use mathlib.Core.List.{List, _++_}
+use Prim.Native.Nat.{ℕ, _*_, _%_, _^_, _≤_}
+use native.Mathlib.Nat.{two-mul}
+use native.Mathlib.Omega.{arith}
+use lib.Pow.{pow-add}
+use lib.ListN.{length, take, drop}
+use lib.Seq.{length-take-le}
+use lib.IntN.{ℤ}
+use borrow.Author.Needs.{needs}
+use Rattle.refusals.proofs.First.{here, later}
+use Rattle.quantise.specs.Block.{Quant, called}
+use Rattle.quantise.specs.Call.{quantFaults, sideFault, qpFault, lambdaFault, costFault, lengthFault, quantAnswer, quantBuffer}
+use Rattle.quantise.proofs.Scaling.{bit}
+use Rattle.quantise.proofs.Answer.{refused-answer, side-low, side-high, side-right, qp-high, qp-right, lambda-test, cost-test, length-low}
+use Rattle.quantise.proofs.Surplus.{surplus-untested, surplus-unchanged}
+use Rattle.quantise.proofs.quant_nnz.Statement.{statement}
+use Rattle.quantise.proofs.quant_nnz.Tie as tie
+
+-- the size of the block, by one shift
+size-is : (l : ℕ) → l ≤ 5 → 1 * 2 ^ (2 * l) % 18446744073709551616 ≡ 2 ^ l * 2 ^ l
+size-is l h = bit (2 * l) (omega arith) ∙ ap (λ (n : ℕ). 2 ^ n) (two-mul l) ∙ pow-add 2 l l
+
+returns : tie.Need-returns
+unfolding called quantFaults sideFault
+returns c =
+    let s = c .before in
+    let e = refused-answer (called (s .args .block .now) (s .args .log2-side) (s .args .component) (s .args .settings) (s .args .intra-slice) (s .args .intra-coded) (s .args .costs))
+    (here (side-low (s .args .block .now) (s .args .log2-side) (s .args .component) (s .args .settings) (s .args .intra-slice) (s .args .intra-coded) (s .args .costs) (c .if1 .taken))) in
+    (sym (e .0), sym (e .1))
+
+returns-2 : tie.Need-returns-2
+unfolding called quantFaults sideFault
+returns-2 c =
+    let s = c .before .before in
+    let e = refused-answer (called (s .args .block .now) (s .args .log2-side) (s .args .component) (s .args .settings) (s .args .intra-slice) (s .args .intra-coded) (s .args .costs))
+    (here (side-high (s .args .block .now) (s .args .log2-side) (s .args .component) (s .args .settings) (s .args .intra-slice) (s .args .intra-coded) (s .args .costs) (c .before .if1 .left) (c .if2 .taken))) in
+    (sym (e .0), sym (e .1))
+
+returns-3 : tie.Need-returns-3
+unfolding called quantFaults qpFault
+returns-3 c =
+    let s = c .before .before .before .before in
+    let e = refused-answer (called (s .args .block .now) (s .args .log2-side) (s .args .component) (s .args .settings) (s .args .intra-slice) (s .args .intra-coded) (s .args .costs))
+    (later (side-right (s .args .block .now) (s .args .log2-side) (s .args .component) (s .args .settings) (s .args .intra-slice) (s .args .intra-coded) (s .args .costs) (c .before .before .before .if1 .left) (c .before .before .if2 .left)) (here (qp-high (s .args .block .now) (s .args .log2-side) (s .args .component) (s .args .settings) (s .args .intra-slice) (s .args .intra-coded) (s .args .costs) (c .if3 .taken)))) in
+    (sym (e .0), sym (e .1))
+
+lambda-refused-requires : tie.Need-lambda-refused-requires
+lambda-refused-requires c κs = search needs
+
+returns-4 : tie.Need-returns-4
+unfolding called quantFaults lambdaFault
+returns-4 c =
+    let s = c .before .before .before .before .before .before in
+    let e = refused-answer (called (s .args .block .now) (s .args .log2-side) (s .args .component) (s .args .settings) (s .args .intra-slice) (s .args .intra-coded) (s .args .costs))
+    (later (side-right (s .args .block .now) (s .args .log2-side) (s .args .component) (s .args .settings) (s .args .intra-slice) (s .args .intra-coded) (s .args .costs) (c .before .before .before .before .before .if1 .left) (c .before .before .before .before .if2 .left)) (later (qp-right (s .args .block .now) (s .args .log2-side) (s .args .component) (s .args .settings) (s .args .intra-slice) (s .args .intra-coded) (s .args .costs) (c .before .before .if3 .left)) (here (lambda-test (s .args .block .now) (s .args .log2-side) (s .args .component) (s .args .settings) (s .args .intra-slice) (s .args .intra-coded) (s .args .costs) true (sym (c .before .lambda-refused .ensures) ∙ c .if4 .taken))))) in
+    (sym (e .0), sym (e .1))
+
+costs-refused-requires : tie.Need-costs-refused-requires
+costs-refused-requires c κs = search needs
+
+returns-5 : tie.Need-returns-5
+unfolding called quantFaults costFault
+returns-5 c =
+    let s = c .before .before .before .before .before .before .before .before in
+    let e = refused-answer (called (s .args .block .now) (s .args .log2-side) (s .args .component) (s .args .settings) (s .args .intra-slice) (s .args .intra-coded) (s .args .costs))
+    (later (side-right (s .args .block .now) (s .args .log2-side) (s .args .component) (s .args .settings) (s .args .intra-slice) (s .args .intra-coded) (s .args .costs) (c .before .before .before .before .before .before .before .if1 .left) (c .before .before .before .before .before .before .if2 .left)) (later (qp-right (s .args .block .now) (s .args .log2-side) (s .args .component) (s .args .settings) (s .args .intra-slice) (s .args .intra-coded) (s .args .costs) (c .before .before .before .before .if3 .left)) (later (lambda-test (s .args .block .now) (s .args .log2-side) (s .args .component) (s .args .settings) (s .args .intra-slice) (s .args .intra-coded) (s .args .costs) false (sym (c .before .before .before .lambda-refused .ensures) ∙ c .before .before .if4 .left)) (here (cost-test (s .args .block .now) (s .args .log2-side) (s .args .component) (s .args .settings) (s .args .intra-slice) (s .args .intra-coded) (s .args .costs) true (sym (c .before .costs-refused .ensures) ∙ c .if5 .taken)))))) in
+    (sym (e .0), sym (e .1))
+
+cast-n : tie.Need-cast-n
+cast-n c = search needs
+
+mul-n : tie.Need-mul-n
+mul-n c = search needs
+
+cast-n-2 : tie.Need-cast-n-2
+cast-n-2 c = search needs
+
+shl-n : tie.Need-shl-n
+shl-n c = search needs
+
+returns-6 : tie.Need-returns-6
+unfolding called quantFaults lengthFault
+returns-6 c =
+    let s = c .before .before .before .before .before .before .before .before .before in
+    let e = refused-answer (called (s .args .block .now) (s .args .log2-side) (s .args .component) (s .args .settings) (s .args .intra-slice) (s .args .intra-coded) (s .args .costs))
+    (later (side-right (s .args .block .now) (s .args .log2-side) (s .args .component) (s .args .settings) (s .args .intra-slice) (s .args .intra-coded) (s .args .costs) (c .before .before .before .before .before .before .before .before .if1 .left) (c .before .before .before .before .before .before .before .if2 .left)) (later (qp-right (s .args .block .now) (s .args .log2-side) (s .args .component) (s .args .settings) (s .args .intra-slice) (s .args .intra-coded) (s .args .costs) (c .before .before .before .before .before .if3 .left)) (later (lambda-test (s .args .block .now) (s .args .log2-side) (s .args .component) (s .args .settings) (s .args .intra-slice) (s .args .intra-coded) (s .args .costs) false (sym (c .before .before .before .before .lambda-refused .ensures) ∙ c .before .before .before .if4 .left)) (later (cost-test (s .args .block .now) (s .args .log2-side) (s .args .component) (s .args .settings) (s .args .intra-slice) (s .args .intra-coded) (s .args .costs) false (sym (c .before .before .costs-refused .ensures) ∙ c .before .if5 .left)) (here (length-low (s .args .block .now) (s .args .log2-side) (s .args .component) (s .args .settings) (s .args .intra-slice) (s .args .intra-coded) (s .args .costs) (omega (arith, c .if6 .taken, size-is (s .args .log2-side) (c .before .before .before .before .before .before .before .if2 .left))))))))) in
+    (sym (e .0), sym (e .1))
+
+slice-relend-prefix-code-block : tie.Need-slice-relend-prefix-code-block
+slice-relend-prefix-code-block c = search needs
+
+slice-aggregate-code-block : tie.Need-slice-aggregate-code-block
+slice-aggregate-code-block c =
+    sym (length-take-le _ (c .before .before .before .before .before .before .before .before .before .before .args .block .now) (c .before .if6 .left))
+
+code-block-requires : tie.Need-code-block-requires
+code-block-requires c κs =
+    let s = c .before .before .before .before .before .before .before .before .before .before in (
+      c .before .before .before .before .before .before .before .before .before .if1 .left,
+      c .before .before .before .before .before .before .before .before .if2 .left,
+      c .before .before .before .before .before .before .if3 .left,
+      sym (c .before .before .before .before .before .lambda-refused .ensures) ∙ c .before .before .before .before .if4 .left,
+      sym (c .before .before .before .costs-refused .ensures) ∙ c .before .before .if5 .left,
+      length-take-le _ (s .args .block .now) (c .before .if6 .left) ∙ size-is (s .args .log2-side) (c .before .before .before .before .before .before .before .before .if2 .left),
+    )
+
+same-length : tie.Need-same-length
+same-length c = search needs
+
+returns-7 : tie.Need-returns-7
+returns-7 c =
+    let s = c .before .before .before .before .before .before .before .before .before .before .before .before in
+    let hi = c .before .before .before .before .before .before .before .before .before .before .if2 .left in
+    let e = size-is (s .args .log2-side) hi in
+    let room : 2 ^ (s .args .log2-side) * 2 ^ (s .args .log2-side) ≤ length (s .args .block .now) = omega (arith, c .before .before .before .if6 .left) in
+    let of : ℕ → Quant = λ m. called (take m (s .args .block .now)) (s .args .log2-side) (s .args .component) (s .args .settings) (s .args .intra-slice) (s .args .intra-coded) (s .args .costs) in (
+      c .before .code-block .ensures .0 ∙ ap (λ (m : ℕ). quantAnswer (of m)) e ∙ surplus-untested (s .args .block .now) (s .args .log2-side) (s .args .component) (s .args .settings) (s .args .intra-slice) (s .args .intra-coded) (s .args .costs) hi room,
+      ap (λ (l : List ℤ). l ++ drop (1 * 2 ^ (2 * s .args .log2-side) % 18446744073709551616) (s .args .block .now)) (c .before .code-block .ensures .1)
+          ∙ ap (λ (m : ℕ). quantBuffer (of m) ++ drop m (s .args .block .now)) e
+          ∙ surplus-unchanged (s .args .block .now) (s .args .log2-side) (s .args .component) (s .args .settings) (s .args .intra-slice) (s .args .intra-coded) (s .args .costs) hi room,
+    )
+
+pub quant-nnz-spec : {M : Type 1} → statement M
+quant-nnz-spec =
+    tie.close
+    (tie.spec
+    returns
+    returns-2
+    returns-3
+    lambda-refused-requires
+    returns-4
+    costs-refused-requires
+    returns-5
+    cast-n
+    mul-n
+    cast-n-2
+    shl-n
+    returns-6
+    slice-relend-prefix-code-block
+    slice-aggregate-code-block
+    code-block-requires
+    same-length
+    returns-7)

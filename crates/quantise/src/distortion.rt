@@ -1,0 +1,41 @@
+// D, the sum of uncoded squares, in parts by 32-bit products. Past 2^60 it is no longer added, so that it cannot overflow.
+use crate::scale::Scale;
+use crate::skip::magnitude;
+use crate::skip::part_end;
+ghost use mathlib.Core.Path.{_≡_};
+ghost use Prim.Native.Nat.{_≤_, _^_};
+ghost use lib.ListN.{length};
+ghost use Rattle.integers.specs.Sum.{over, onℕ};
+ghost use Rattle.quantise.specs.Code.{Sound, Within, zeroDistortion, Held};
+
+fn squares(part: &[i16], g: Scale) -> u64
+    requires { ⌜ Sound g × (length (now part) ≤ 32) × Within (now part) 32767 ⌝ }
+    ensures { λ r. ⌜ (r ≡ over onℕ (zeroDistortion g) (now (part .entry))) × (r ≤ 2 ^ 63) ⌝ }
+{
+    let mut sum: u64 = 0;
+    let mut i = 0;
+    while i < part.len() {
+        let a = magnitude(part[i]);
+        let x = (a * g.front - (a * g.rest + 1048575) / 1048576) as u64;
+        sum += x * x;
+        i += 1;
+    }
+    sum
+}
+
+pub fn uncoded(block: &[i16], g: Scale) -> u64
+    requires { ⌜ Sound g × Within (now block) 32767 ⌝ }
+    ensures { λ r. ⌜ Held (over onℕ (zeroDistortion g) (now (block .entry))) r ⌝ }
+{
+    let mut d: u64 = 0;
+    let mut i = 0;
+    while i < block.len() {
+        let e = part_end(i, block.len(), 32);
+        let x = squares(&block[i..e], g);
+        if d <= 1152921504606846976 {
+            d += x;
+        }
+        i = e;
+    }
+    d
+}
