@@ -1,1 +1,10 @@
 pub mod Numbers
+pub mod Asked
+pub mod Stretches
+pub mod OneComponent
+pub mod ThreeParts
+pub mod Turns
+pub mod Late
+pub mod Passed
+pub mod Whole
+pub mod Finished

@@ -19,6 +19,7 @@ use Rattle.price.specs.declared.Settings.{Settings}
 use Rattle.price.specs.Costs.{costRefused}
 use Rattle.quantise.specs.Block.{Quant, coding, countOf, priceOf, quantised}
 use Rattle.quantise.specs.Call as quant
+use Rattle.subblock.specs.declared.Request.{Request}
 use Rattle.subblock.specs.declared.SubBlockAnswer.{SubBlockAnswer}
 use Rattle.subblock.specs.declared.SubBlockAnswer.the-variants.{Coded, Refused}
 
@@ -51,10 +52,19 @@ called buffer l y u v run intraSlice intraCoded t =
       costs = t;
     }
 
+-- the same of a request, which holds all inputs but the buffer
+unfoldable pub requested : List ℤ → Request → SubBlock
+unfolding called
+requested buffer q = called buffer (q .side) (q .y) (q .u) (q .v) (q .run) (q .slice) (q .coded) (q .costs)
+
 -- ---- the components
 -- bits 0, 1, 2 of the run mask are for Y, U, V; other bits mean nothing
+unfoldable pub bit : Component → ℕ → Bool
+bit k run = eqb (run / 2 ^ componentOf k % 2) 1
+
 unfoldable pub runs : Component → SubBlock → Bool
-runs k s = eqb (s .run / 2 ^ componentOf k % 2) 1
+unfolding bit
+runs k s = bit k (s .run)
 
 abbrev pub settingsOf : Component → SubBlock → Settings
 settingsOf Y s = s .y

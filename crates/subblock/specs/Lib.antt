@@ -1,1 +1,3 @@
 pub mod Call
+pub mod Tested
+pub mod Parts

@@ -1,0 +1,170 @@
+// The exports for C and Rust, nothing else: each takes whole numbers, f64s, slices and arrays, and answers 0 or a refusal's number.
+use crate::wire::costs_of;
+use crate::wire::quantise;
+use price::Settings;
+use refusals::Component;
+use refusals::component_number;
+use refusals::number;
+use subblock::Request;
+use subblock::SubBlockAnswer;
+use subblock::sub_block_tq;
+use transform::TransAnswer;
+use transform::trans;
+ghost use mathlib.Core.Path.{_≡_};
+ghost use Rattle.refusals.specs.declared.Component.the-variants.{Y, U, «V»};
+ghost use Rattle.transform.specs.Call.{called, transBuffer, transVerdict};
+ghost use Rattle.quantise.specs.Call.{quantAnswer, quantBuffer};
+ghost use Rattle.subblock.specs.Call.{subBlockAnswer, subBlockBuffer};
+ghost use Rattle.galemosu.specs.Wire.{transResult, quantAsked, quantResult, quantWritten, threeAsked, threeResult, threeWritten};
+
+mod wire;
+
+#[no_mangle]
+pub extern "C" fn galemosu_transform(block: &mut [i16], log2_w: usize, log2_h: usize) -> u32
+    ensures answer { λ r. ⌜ r ≡ transResult (transVerdict (called (now (block .entry)) «log2_w» «log2_h»)) ⌝ }
+    ensures buffer { λ _. ⌜ now (block .exit) ≡ transBuffer (called (now (block .entry)) «log2_w» «log2_h») ⌝ }
+{
+    match trans(block, log2_w, log2_h) {
+        TransAnswer::Accepted => 0,
+        TransAnswer::Refused(why) => number(why),
+    }
+}
+
+#[no_mangle]
+pub extern "C" fn galemosu_quantise_y(
+    block: &mut [i16],
+    log2_side: usize,
+    qp: u32,
+    lambda: f64,
+    intra_slice: u32,
+    intra_coded: u32,
+    costs: &[u64; 28],
+    answer: &mut [u64; 3],
+) -> u32
+    ensures result { λ r. ⌜ r ≡ quantResult (quantAnswer (quantAsked (now (block .entry)) «log2_side» Y qp lambda «intra_slice» «intra_coded» (now (costs .entry)))) ⌝ }
+    ensures answer { λ _. ⌜ now (answer .exit) ≡ quantWritten (quantAnswer (quantAsked (now (block .entry)) «log2_side» Y qp lambda «intra_slice» «intra_coded» (now (costs .entry)))) ⌝ }
+    ensures block { λ _. ⌜ now (block .exit) ≡ quantBuffer (quantAsked (now (block .entry)) «log2_side» Y qp lambda «intra_slice» «intra_coded» (now (costs .entry))) ⌝ }
+{
+    quantise(
+        block,
+        log2_side,
+        Component::Y,
+        qp,
+        lambda,
+        intra_slice,
+        intra_coded,
+        costs,
+        answer,
+    )
+}
+
+#[no_mangle]
+pub extern "C" fn galemosu_quantise_u(
+    block: &mut [i16],
+    log2_side: usize,
+    qp: u32,
+    lambda: f64,
+    intra_slice: u32,
+    intra_coded: u32,
+    costs: &[u64; 28],
+    answer: &mut [u64; 3],
+) -> u32
+    ensures result { λ r. ⌜ r ≡ quantResult (quantAnswer (quantAsked (now (block .entry)) «log2_side» U qp lambda «intra_slice» «intra_coded» (now (costs .entry)))) ⌝ }
+    ensures answer { λ _. ⌜ now (answer .exit) ≡ quantWritten (quantAnswer (quantAsked (now (block .entry)) «log2_side» U qp lambda «intra_slice» «intra_coded» (now (costs .entry)))) ⌝ }
+    ensures block { λ _. ⌜ now (block .exit) ≡ quantBuffer (quantAsked (now (block .entry)) «log2_side» U qp lambda «intra_slice» «intra_coded» (now (costs .entry))) ⌝ }
+{
+    quantise(
+        block,
+        log2_side,
+        Component::U,
+        qp,
+        lambda,
+        intra_slice,
+        intra_coded,
+        costs,
+        answer,
+    )
+}
+
+#[no_mangle]
+pub extern "C" fn galemosu_quantise_v(
+    block: &mut [i16],
+    log2_side: usize,
+    qp: u32,
+    lambda: f64,
+    intra_slice: u32,
+    intra_coded: u32,
+    costs: &[u64; 28],
+    answer: &mut [u64; 3],
+) -> u32
+    ensures result { λ r. ⌜ r ≡ quantResult (quantAnswer (quantAsked (now (block .entry)) «log2_side» «V» qp lambda «intra_slice» «intra_coded» (now (costs .entry)))) ⌝ }
+    ensures answer { λ _. ⌜ now (answer .exit) ≡ quantWritten (quantAnswer (quantAsked (now (block .entry)) «log2_side» «V» qp lambda «intra_slice» «intra_coded» (now (costs .entry)))) ⌝ }
+    ensures block { λ _. ⌜ now (block .exit) ≡ quantBuffer (quantAsked (now (block .entry)) «log2_side» «V» qp lambda «intra_slice» «intra_coded» (now (costs .entry))) ⌝ }
+{
+    quantise(
+        block,
+        log2_side,
+        Component::V,
+        qp,
+        lambda,
+        intra_slice,
+        intra_coded,
+        costs,
+        answer,
+    )
+}
+
+#[no_mangle]
+pub extern "C" fn galemosu_sub_block(
+    buffer: &mut [i16],
+    log2_luma: usize,
+    qp: &[u32; 3],
+    lambda: &[f64; 3],
+    run: u32,
+    intra_slice: u32,
+    intra_coded: u32,
+    costs: &[u64; 28],
+    answer: &mut [u64; 7],
+) -> u32
+    ensures result { λ r. ⌜ r ≡ threeResult (subBlockAnswer (threeAsked (now (buffer .entry)) «log2_luma» (now (qp .entry)) (now (lambda .entry)) run «intra_slice» «intra_coded» (now (costs .entry)))) ⌝ }
+    ensures answer { λ _. ⌜ now (answer .exit) ≡ threeWritten (subBlockAnswer (threeAsked (now (buffer .entry)) «log2_luma» (now (qp .entry)) (now (lambda .entry)) run «intra_slice» «intra_coded» (now (costs .entry)))) ⌝ }
+    ensures buffer { λ _. ⌜ now (buffer .exit) ≡ subBlockBuffer (threeAsked (now (buffer .entry)) «log2_luma» (now (qp .entry)) (now (lambda .entry)) run «intra_slice» «intra_coded» (now (costs .entry))) ⌝ }
+{
+    let q = Request {
+        side: log2_luma,
+        y: Settings {
+            qp: qp[0],
+            lambda: lambda[0],
+        },
+        u: Settings {
+            qp: qp[1],
+            lambda: lambda[1],
+        },
+        v: Settings {
+            qp: qp[2],
+            lambda: lambda[2],
+        },
+        run: run,
+        slice: intra_slice != 0,
+        coded: intra_coded != 0,
+        costs: costs_of(costs),
+    };
+    match sub_block_tq(buffer, q) {
+        SubBlockAnswer::Coded(y, u, v) => {
+            *answer = [
+                0,
+                y.count as u64,
+                u.count as u64,
+                v.count as u64,
+                y.price,
+                u.price,
+                v.price,
+            ];
+            0
+        }
+        SubBlockAnswer::Refused(why, k) => {
+            *answer = [component_number(k) as u64, 0, 0, 0, 0, 0, 0];
+            number(why)
+        }
+    }
+}

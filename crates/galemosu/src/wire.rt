@@ -1,0 +1,87 @@
+// The calls over flat numbers.
+use price::Costs;
+use price::Settings;
+use quantise::Coded;
+use quantise::QuantAnswer;
+use quantise::quant_nnz;
+use refusals::Component;
+use refusals::component_number;
+use refusals::number;
+ghost use mathlib.Core.Path.{_≡_};
+ghost use Prim.Native.Nat.{_≤_};
+ghost use Rattle.quantise.specs.Call.{quantAnswer, quantBuffer};
+ghost use Rattle.galemosu.specs.Wire.{fourFrom, eightFrom, costsIn, quantAsked, quantResult, quantWritten};
+
+fn four(c: &[u64; 28], i: usize) -> [u64; 4]
+    requires { ⌜ i ≤ 24 ⌝ }
+    ensures { λ r. ⌜ r ≡ fourFrom i (now (c .entry)) ⌝ }
+{
+    [c[i], c[i + 1], c[i + 2], c[i + 3]]
+}
+
+fn eight(c: &[u64; 28], i: usize) -> [u64; 8]
+    requires { ⌜ i ≤ 20 ⌝ }
+    ensures { λ r. ⌜ r ≡ eightFrom i (now (c .entry)) ⌝ }
+{
+    [
+        c[i],
+        c[i + 1],
+        c[i + 2],
+        c[i + 3],
+        c[i + 4],
+        c[i + 5],
+        c[i + 6],
+        c[i + 7],
+    ]
+}
+
+pub fn costs_of(c: &[u64; 28]) -> Costs
+    ensures { λ r. ⌜ r ≡ costsIn (now (c .entry)) ⌝ }
+{
+    Costs {
+        run: eight(c, 0),
+        level: eight(c, 8),
+        last: four(c, 16),
+        cbf: eight(c, 20),
+    }
+}
+
+pub fn quantise(
+    block: &mut [i16],
+    log2_side: usize,
+    component: Component,
+    qp: u32,
+    lambda: f64,
+    intra_slice: u32,
+    intra_coded: u32,
+    costs: &[u64; 28],
+    answer: &mut [u64; 3],
+) -> u32
+    ensures result { λ r. ⌜ r ≡ quantResult (quantAnswer (quantAsked (now (block .entry)) «log2_side» component qp lambda «intra_slice» «intra_coded» (now (costs .entry)))) ⌝ }
+    ensures answer { λ _. ⌜ now (answer .exit) ≡ quantWritten (quantAnswer (quantAsked (now (block .entry)) «log2_side» component qp lambda «intra_slice» «intra_coded» (now (costs .entry)))) ⌝ }
+    ensures block { λ _. ⌜ now (block .exit) ≡ quantBuffer (quantAsked (now (block .entry)) «log2_side» component qp lambda «intra_slice» «intra_coded» (now (costs .entry))) ⌝ }
+{
+    let t = costs_of(costs);
+    let coded = quant_nnz(
+        block,
+        log2_side,
+        component,
+        Settings {
+            qp: qp,
+            lambda: lambda,
+        },
+        intra_slice != 0,
+        intra_coded != 0,
+        t,
+    );
+    match coded {
+        QuantAnswer::Coded(c) => {
+            *answer = [0, c.count as u64, c.price];
+            0
+        }
+        QuantAnswer::Refused(why, k) => {
+            *answer = [component_number(k) as u64, 0, 0];
+            number(why)
+        }
+    }
+}

@@ -1,0 +1,101 @@
+-- The verdict of the three-component call once its early tests have passed: the first of the verdicts that the quantiser alone gives of
+-- Y, then U, then V, of those that are run.
+-- Assumes nothing.
+use mathlib.Core.Path.{_≡_, refl, sym, ap, _∙_}
+use mathlib.Core.Bool.{Bool, true, false, cond, _&&_}
+use mathlib.Core.List.{List, [], _∷_, _++_, map}
+use Prim.Native.Nat.{ℕ, _*_, _^_}
+use lib.Dec.{ltb}
+use lib.ListN.{length, take}
+use lib.IntN.{ℤ, negsuc}
+use Rattle.integers.specs.Tests.{some, eqℤ}
+use Rattle.refusals.specs.declared.Component.{Component}
+use Rattle.refusals.specs.declared.Component.the-variants.{Y, U, «V»}
+use Rattle.refusals.specs.Numbers.{numberOf, componentOf}
+use Rattle.refusals.specs.Faults.{Fault, Verdict, accepted, refused, verdict}
+use Rattle.refusals.proofs.First.{orElse, verdict-append, end, but, accepted-without-a-fault}
+use Rattle.quantise.specs.Block.{Quant}
+use Rattle.quantise.specs.Call as quant
+use Rattle.subblock.specs.Call.{SubBlock, runs, quantOf, inQuant, subBlockFaults, subBlockVerdict}
+use Rattle.subblock.specs.Tested.{settingsFaults, bufferFaults, lateFaults}
+
+-- the faults of the quantiser that belong to what it was told, lifted to a component
+module _ (k : Component) (s : SubBlock) where
+  data AllTold : List (Fault Quant) → Type 0 where
+    none : AllTold []
+    more : {f : Fault Quant} {fs : List (Fault Quant)} → f .component (quantOf k s) ≡ k → AllTold fs → AllTold (f ∷ fs)
+
+  lifted : (fs : List (Fault Quant)) → AllTold fs
+      → verdict (map (inQuant k) fs) s ≡ cond (runs k s) (verdict fs (quantOf k s)) accepted
+  unfolding verdict inQuant
+  lifted [] none = by (runs k s)
+    where
+      by : (t : Bool) → accepted ≡ cond t accepted accepted
+      by true = refl
+      by false = refl
+  lifted (f ∷ fs) (more e r) = by (runs k s) (f .holds (quantOf k s)) (lifted fs r)
+    where
+      by : (t h : Bool) → verdict (map (inQuant k) fs) s ≡ cond t (verdict fs (quantOf k s)) accepted
+          → cond (t && h) (refused (numberOf (f .refusal)) (componentOf k)) (verdict (map (inQuant k) fs) s)
+          ≡ cond t (cond h (refused (numberOf (f .refusal)) (componentOf (f .component (quantOf k s)))) (verdict fs (quantOf k s))) accepted
+      by true true i = ap (λ (c : Component). refused (numberOf (f .refusal)) (componentOf c)) (sym e)
+      by true false i = i
+      by false h i = i
+
+  -- of what only the coefficients show
+  pub late-is : verdict (map (inQuant k) lateFaults) s ≡ cond (runs k s) (verdict lateFaults (quantOf k s)) accepted
+  unfolding lateFaults quant.levelFault quant.priceFault quant.distortionFault quantOf
+  late-is = lifted lateFaults (more refl (more refl (more refl none)))
+
+-- the list of the call in its groups
+in-groups : subBlockFaults
+    ≡ settingsFaults ++ (bufferFaults ++ (map (inQuant Y) lateFaults ++ (map (inQuant U) lateFaults ++ map (inQuant «V») lateFaults)))
+unfolding subBlockFaults settingsFaults bufferFaults lateFaults
+in-groups = refl
+
+verdict-is : (s : SubBlock) → subBlockVerdict s ≡ verdict subBlockFaults s
+unfolding subBlockVerdict
+verdict-is s = refl
+
+-- the verdict of a component's coefficients
+abbrev pub lateOf : Component → SubBlock → Verdict
+lateOf k s = cond (runs k s) (verdict lateFaults (quantOf k s)) accepted
+
+pub verdict-in-groups : (s : SubBlock)
+    → subBlockVerdict s
+    ≡ orElse (verdict settingsFaults s)
+    (orElse (verdict bufferFaults s) (orElse (lateOf Y s) (orElse (lateOf U s) (lateOf «V» s))))
+verdict-in-groups s =
+    let y = map (inQuant Y) lateFaults in
+    let u = map (inQuant U) lateFaults in
+    let v = map (inQuant «V») lateFaults in
+    verdict-is s
+    ∙ ap (λ (fs : List (Fault SubBlock)). verdict fs s) in-groups
+    ∙ verdict-append s settingsFaults (bufferFaults ++ (y ++ (u ++ v)))
+    ∙ ap (orElse (verdict settingsFaults s))
+    (verdict-append s bufferFaults (y ++ (u ++ v))
+    ∙ ap (orElse (verdict bufferFaults s))
+    (verdict-append s y (u ++ v)
+    ∙ ap (orElse (verdict y s)) (verdict-append s u v)
+    ∙ ap (λ (o : Verdict). orElse o (orElse (verdict u s) (verdict v s))) (late-is Y s)
+    ∙ ap (λ (o : Verdict). orElse (lateOf Y s) (orElse o (verdict v s))) (late-is U s)
+    ∙ ap (λ (o : Verdict). orElse (lateOf Y s) (orElse (lateOf U s) o)) (late-is «V» s)))
+
+-- ---- the quantiser alone gives the same verdict of a component whose early tests have passed
+unfoldable pub earlyFaults : List (Fault Quant)
+earlyFaults = quant.sideFault ∷ quant.qpFault ∷ quant.lambdaFault ∷ quant.costFault ∷ quant.lengthFault ∷ quant.sampleFault ∷ []
+
+alone-in-groups : quant.quantFaults ≡ earlyFaults ++ lateFaults
+unfolding quant.quantFaults lateFaults earlyFaults
+alone-in-groups = refl
+
+alone-is : (c : Quant) → quant.quantVerdict c ≡ verdict quant.quantFaults c
+unfolding quant.quantVerdict
+alone-is c = refl
+
+pub alone-late : (c : Quant) → verdict earlyFaults c ≡ accepted → quant.quantVerdict c ≡ verdict lateFaults c
+alone-late c e =
+    alone-is c
+    ∙ ap (λ (fs : List (Fault Quant)). verdict fs c) alone-in-groups
+    ∙ verdict-append c earlyFaults lateFaults
+    ∙ ap (λ (o : Verdict). orElse o (verdict lateFaults c)) e

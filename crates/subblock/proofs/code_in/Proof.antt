@@ -1,0 +1,113 @@
+-- `subblock::code_in` meets its contract: the room is a copy of the three stretches, the three components are coded in it, and only what
+-- all three left is written back.
+-- Assumes nothing.
+use mathlib.Core.Path.{sym, subst, _∙_}
+use mathlib.Core.List.{List}
+use Prim.Native.Nat.{_+_, _-_, _/_}
+use borrow.Author.Needs.{needs}
+use lib.IntN.{ℤ}
+use Rattle.subblock.specs.Parts.{AllReady}
+use Rattle.subblock.proofs.Passed.{room-of, room, all-ready}
+use Rattle.subblock.proofs.Finished.{front, finished-answer, finished-coded, finished-refused}
+use Rattle.subblock.proofs.code_in.Statement.{statement}
+use Rattle.subblock.proofs.code_in.Tie as tie
+
+add-v : tie.Need-add-v
+add-v c = search needs
+
+add-v-2 : tie.Need-add-v-2
+add-v-2 c = search needs
+
+sub-copy : tie.Need-sub-copy
+sub-copy c = search needs
+
+part-copy-start : tie.Need-part-copy-start
+part-copy-start c = search needs
+
+part-copy-end : tie.Need-part-copy-end
+part-copy-end c =
+    let s = c .before in
+    room-of (s .args .buffer .now) (s .args .q) (s .args .n) (s .pre .sizes) (s .pre .passed .settings) (s .pre .passed .buffer)
+
+copy-requires : tie.Need-copy-requires
+copy-requires c κs = search needs
+
+code-parts-requires : tie.Need-code-parts-requires
+code-parts-requires c κs =
+    let s = c .before .before .before .before .before .before in
+    subst
+    (λ (l : List ℤ). AllReady (s .args .q) (s .args .n) l)
+    (sym (front (s .args .buffer .now) _ (s .args .n + s .args .n / 4 + s .args .n / 4) (c .before .before .copy .ensures)))
+    (all-ready (s .args .buffer .now) (s .args .q) (s .args .n) (s .pre .sizes) (s .pre .passed .settings) (s .pre .passed .buffer))
+
+enum-told : tie.Need-enum-told
+enum-told c = search needs
+
+write-back-requires : tie.Need-write-back-requires
+write-back-requires c κs =
+    let s = c .before .before .before .before .before .before .before .before .before .before .before .before in
+    (s .pre .sizes .small, search needs, room-of (s .args .buffer .now) (s .args .q) (s .args .n) (s .pre .sizes) (s .pre .passed .settings) (s .pre .passed .buffer))
+
+enum-told-2 : tie.Need-enum-told-2
+enum-told-2 c = search needs
+
+same-length : tie.Need-same-length
+same-length c = search needs
+
+same-length-2 : tie.Need-same-length-2
+same-length-2 c = search needs
+
+returns : tie.Need-returns
+returns c =
+    let r = c .before .before .before .before .before .before .before in
+    let s = r .before .before .before .before .before .before .before in
+    let b = s .args .buffer .now in
+    let q = s .args .q in
+    let n = s .args .n in
+    let e = r .before .before .before .copy .ensures in
+    let p = r .code-parts .ensures in
+    let g = c .before .before .before .before .enum-told .given in (
+      finished-answer b q n (s .pre .sizes) (s .pre .passed) _ _ _ e p,
+      c .before .write-back .ensures ∙ sym (finished-coded b q n (s .pre .sizes) (s .pre .passed) _ _ _ e p (g .0 .0) (g .0 .1 .0) (g .0 .1 .1 .0) (g .1)),
+    )
+
+same-length-3 : tie.Need-same-length-3
+same-length-3 c = search needs
+
+same-length-4 : tie.Need-same-length-4
+same-length-4 c = search needs
+
+returns-2 : tie.Need-returns-2
+returns-2 c =
+    let r = c .before .before .before in
+    let s = r .before .before .before .before .before .before .before in
+    let b = s .args .buffer .now in
+    let q = s .args .q in
+    let n = s .args .n in
+    let e = r .before .before .before .copy .ensures in
+    let p = r .code-parts .ensures in
+    let g = c .enum-told2 .given in (
+      finished-answer b q n (s .pre .sizes) (s .pre .passed) _ _ _ e p,
+      sym (finished-refused b q n (s .pre .sizes) (s .pre .passed) _ _ _ e p (g .0 .0) (g .0 .1 .0) (g .1)),
+    )
+
+pub code-in-spec : {M : Type 1} → statement M
+code-in-spec =
+    tie.close
+    (tie.spec
+    add-v
+    add-v-2
+    sub-copy
+    part-copy-start
+    part-copy-end
+    copy-requires
+    code-parts-requires
+    enum-told
+    write-back-requires
+    enum-told-2
+    same-length
+    same-length-2
+    returns
+    same-length-3
+    same-length-4
+    returns-2)
