@@ -47,4 +47,31 @@ impl Random {
             })
             .collect()
     }
+
+    /// The same strokes out of focus: each sample the mean of a square of nine.
+    #[allow(dead_code)]
+    pub fn soft_text(&mut self, w: usize, n: usize) -> Vec<i16> {
+        let (sharp, h) = (self.text(w, n), n / w);
+        (0..n)
+            .map(|i| {
+                let (x, y) = (i % w, i / w);
+                let around = |v: usize, most: usize| [v.saturating_sub(1), v, (v + 1).min(most - 1)];
+                let sum: i32 = around(y, h).iter().flat_map(|b| around(x, w).map(|a| sharp[b * w + a] as i32)).sum();
+                (sum / 9 / 2) as i16
+            })
+            .collect()
+    }
+
+    /// Light that falls off over the block.
+    #[allow(dead_code)]
+    pub fn ramp(&mut self, w: usize, n: usize) -> Vec<i16> {
+        let slope = 20 + self.below(60) as i64;
+        (0..n).map(|i| ((i % w + i / w) as i64 * slope * 8 / w as i64 - slope * 8 + self.between(-2, 2)) as i16).collect()
+    }
+
+    /// A blank part of a label: noise alone.
+    #[allow(dead_code)]
+    pub fn blank(&mut self, n: usize) -> Vec<i16> {
+        (0..n).map(|_| self.between(-2, 2) as i16).collect()
+    }
 }

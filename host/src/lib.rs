@@ -1,4 +1,4 @@
-//! The proved transform of an EVC recorder, for a Rust host.
+//! The proved transform and quantiser of an EVC recorder, for a Rust host.
 //!
 //! Every call comes back, for all settings, lengths and samples. A refused call gives one of nine refusals in a fixed order and
 //! leaves the lent block as it was; `docs/PROMISES.md` says what is proved.
@@ -35,8 +35,72 @@ impl Refusal {
     }
 }
 
+/// The three components of a block. No fourth can be named.
+#[derive(Clone, Copy, Debug, PartialEq, Eq)]
+pub enum Component {
+    Y = 0,
+    U = 1,
+    V = 2,
+}
+
+/// Why a call was refused. A fault that belongs to no component counts as Y's.
+#[derive(Clone, Copy, Debug, PartialEq, Eq)]
+pub struct Refused {
+    pub refusal: Refusal,
+    pub component: Component,
+}
+
+/// One component's settings.
+#[derive(Clone, Copy, Debug, PartialEq)]
+pub struct Settings {
+    pub qp: u32,
+    pub lambda: f64,
+}
+
+/// The cost tables: pair k of a table stands at 2k and 2k+1. The run and level pairs are rows 0 to 3 of the source's, the cbf pairs
+/// those of all, luma, cb and cr. A signed entry of the source, `as u64`, keeps its meaning: a negative one is refused with `Cost`.
+#[derive(Clone, Copy, Debug, PartialEq, Eq)]
+#[repr(C)]
+pub struct Costs {
+    pub run: [u64; 8],
+    pub level: [u64; 8],
+    pub last: [u64; 4],
+    pub cbf: [u64; 8],
+}
+
+impl Costs {
+    /// The 28 entries as the calls read them.
+    fn entries(&self) -> *const u64 {
+        const { assert!(std::mem::size_of::<Costs>() == 28 * 8) };
+        (self as *const Costs).cast()
+    }
+}
+
+/// What was coded: the number of nonzero levels, and the price.
+#[derive(Clone, Copy, Debug, PartialEq, Eq)]
+pub struct Coded {
+    pub count: u32,
+    pub price: u64,
+}
+
+type Quantise = unsafe extern "C" fn(*mut i16, usize, usize, u32, f64, u32, u32, *const u64, *mut u64) -> u32;
+
 extern "C" {
     fn galemosu_transform(block: *mut i16, len: usize, log2_w: usize, log2_h: usize) -> u32;
+    fn galemosu_quantise_y(block: *mut i16, len: usize, log2_side: usize, qp: u32, lambda: f64, intra_slice: u32, intra_coded: u32, costs: *const u64, answer: *mut u64) -> u32;
+    fn galemosu_quantise_u(block: *mut i16, len: usize, log2_side: usize, qp: u32, lambda: f64, intra_slice: u32, intra_coded: u32, costs: *const u64, answer: *mut u64) -> u32;
+    fn galemosu_quantise_v(block: *mut i16, len: usize, log2_side: usize, qp: u32, lambda: f64, intra_slice: u32, intra_coded: u32, costs: *const u64, answer: *mut u64) -> u32;
+    fn galemosu_sub_block(buffer: *mut i16, len: usize, log2_luma: usize, qp: *const u32, lambda: *const f64, run: u32, intra_slice: u32, intra_coded: u32, costs: *const u64, answer: *mut u64) -> u32;
+}
+
+/// A refused call's answer: the result's number and the component that stands first in what was written.
+fn refused(refusal: Refusal, component: u64) -> Refused {
+    let component = match component {
+        0 => Component::Y,
+        1 => Component::U,
+        _ => Component::V,
+    };
+    Refused { refusal, component }
 }
 
 /// The forward transform, in place, of the block of residuals at the front of `block`: 2^log2_w wide, 2^log2_h high, by rows.
@@ -49,6 +113,60 @@ pub fn transform(block: &mut [i16], log2_w: usize, log2_h: usize) -> Result<(), 
     match Refusal::of(number) {
         None => Ok(()),
         Some(refusal) => Err(refusal),
+    }
+}
+
+/// Quantises, in place, the square block of coefficients at the front of `block`, of side 2^log2_side.
+///
+/// The levels take the coefficients' place; what lies behind the block is neither read nor changed. All nine refusals can come, in
+/// the order of their numbers; `Level`, `Price` and `Distortion` only for a block that the quick skip does not clear.
+pub fn quantise(
+    block: &mut [i16],
+    log2_side: usize,
+    component: Component,
+    settings: Settings,
+    intra_slice: bool,
+    intra_coded: bool,
+    costs: &Costs,
+) -> Result<Coded, Refused> {
+    let call: Quantise = match component {
+        Component::Y => galemosu_quantise_y,
+        Component::U => galemosu_quantise_u,
+        Component::V => galemosu_quantise_v,
+    };
+    let mut answer = [0u64; 3];
+    // SAFETY: the block is one lent slice; the arrays have the lengths that the calls read and write, and outlive the call.
+    let number = unsafe {
+        call(block.as_mut_ptr(), block.len(), log2_side, settings.qp, settings.lambda, intra_slice as u32, intra_coded as u32, costs.entries(), answer.as_mut_ptr())
+    };
+    match Refusal::of(number) {
+        None => Ok(Coded { count: answer[1] as u32, price: answer[2] }),
+        Some(refusal) => Err(refused(refusal, answer[0])),
+    }
+}
+
+/// Transforms and quantises the three components that stand in `buffer`: Y of side 2^log2_luma, then U and V of half that side.
+///
+/// Bits 0, 1 and 2 of `run` are for Y, U and V. A component that is not run keeps its residuals and answers 0 and 0. Nothing is written
+/// until every test of every component has passed.
+pub fn sub_block(
+    buffer: &mut [i16],
+    log2_luma: usize,
+    settings: &[Settings; 3],
+    run: u32,
+    intra_slice: bool,
+    intra_coded: bool,
+    costs: &Costs,
+) -> Result<[Coded; 3], Refused> {
+    let (qp, lambda) = (settings.map(|s| s.qp), settings.map(|s| s.lambda));
+    let mut answer = [0u64; 7];
+    // SAFETY: the buffer is one lent slice; the arrays have the lengths that the call reads and writes, and outlive it.
+    let number = unsafe {
+        galemosu_sub_block(buffer.as_mut_ptr(), buffer.len(), log2_luma, qp.as_ptr(), lambda.as_ptr(), run, intra_slice as u32, intra_coded as u32, costs.entries(), answer.as_mut_ptr())
+    };
+    match Refusal::of(number) {
+        None => Ok([0, 1, 2].map(|k| Coded { count: answer[1 + k] as u32, price: answer[4 + k] })),
+        Some(refusal) => Err(refused(refusal, answer[0])),
     }
 }
 
@@ -83,5 +201,94 @@ mod tests {
         assert_eq!(transform(&mut block, 1, 1), Err(Refusal::Sample));
         assert_eq!(transform(&mut [], 1, 1), Err(Refusal::Length));
         assert_eq!(block, held);
+    }
+
+    const FLAT: Costs = Costs { run: [32768; 8], level: [32768; 8], last: [32768; 4], cbf: [32768; 8] };
+
+    /// Document 01's P5 to P12: luma of an intra-coded block in an intra slice.
+    fn luma(block: &mut [i16], log2_side: usize, qp: u32, lambda: f64) -> Result<Coded, Refused> {
+        quantise(block, log2_side, Component::Y, Settings { qp, lambda }, true, true, &FLAT)
+    }
+
+    #[test]
+    fn the_paper_s_levels_and_prices() {
+        for (held, lambda, levels, count, price) in [
+            ([20, 7, 0, 0], 1.0 / 1024.0, [1, 0, 0, 0], 1, 22_282_240),
+            ([-24, 0, 0, 0], 1.0 / 1024.0, [-1, 0, 0, 0], 1, 22_020_096),
+            ([16, 8, 0, 0], 0.0, [1, 0, 0, 0], 1, 16_777_216),
+            ([10, 0, 0, 0], 1.0 / 64.0, [0, 0, 0, 0], 0, 42_991_616),
+            ([9, 0, 0, 0], 1.0 / 1024.0, [0, 0, 0, 0], 0, 0),
+        ] {
+            let mut block = held;
+            assert_eq!(luma(&mut block, 1, 4, lambda), Ok(Coded { count, price }));
+            assert_eq!(block, levels);
+        }
+    }
+
+    #[test]
+    fn the_paper_s_refusals() {
+        let with = |values: &[i16], qp, lambda| {
+            let mut block = vec![0; 1024];
+            block[..values.len()].copy_from_slice(values);
+            luma(&mut block, 5, qp, lambda).map(|_| ()).map_err(|r| r.refusal)
+        };
+        assert_eq!(with(&[29183], 3, 1.0 / 1024.0), Ok(()));
+        assert_eq!(with(&[29184], 3, 1.0 / 1024.0), Err(Refusal::Level));
+        assert_eq!(with(&[8191], 4, 8192.0), Ok(()));
+        assert_eq!(with(&[8192], 4, 8192.0), Err(Refusal::Price));
+        assert_eq!(with(&[16384; 64], 4, 0.0), Ok(()));
+        assert_eq!(with(&[16384; 65], 4, 0.0), Err(Refusal::Distortion));
+    }
+
+    #[test]
+    fn a_refusal_says_its_component_and_leaves_the_block() {
+        let held = [-32768, 0, 0, 0, 77];
+        let mut block = held;
+        let settings = Settings { qp: 4, lambda: 0.5 };
+        let refused = quantise(&mut block, 1, Component::V, settings, true, true, &FLAT);
+        assert_eq!(refused, Err(Refused { refusal: Refusal::Sample, component: Component::V }));
+        let refused = quantise(&mut block, 1, Component::U, Settings { qp: 64, lambda: f64::NAN }, true, true, &FLAT);
+        assert_eq!(refused, Err(Refused { refusal: Refusal::Qp, component: Component::U }));
+        let refused = quantise(&mut block, 1, Component::U, Settings { qp: 63, lambda: f64::NAN }, true, true, &FLAT);
+        assert_eq!(refused, Err(Refused { refusal: Refusal::Lambda, component: Component::U }));
+        let mut dear = FLAT;
+        dear.last[3] = -1i32 as u64;
+        let refused = quantise(&mut block, 2, Component::U, settings, true, true, &dear);
+        assert_eq!(refused, Err(Refused { refusal: Refusal::Cost, component: Component::Y }));
+        assert_eq!(block, held);
+    }
+
+    #[test]
+    fn three_components_are_the_transform_and_the_quantiser_alone() {
+        let held: Vec<i16> = (0..30).map(|i| (i * 37 % 200 - 100) as i16).collect();
+        let settings = [Settings { qp: 20, lambda: 0.25 }, Settings { qp: 12, lambda: 0.5 }, Settings { qp: 30, lambda: 0.0 }];
+        for run in 0..16 {
+            let mut buffer = held.clone();
+            let coded = sub_block(&mut buffer, 2, &settings, run, false, true, &FLAT).unwrap();
+            let mut alone = held.clone();
+            for (k, (component, start, side)) in [(Component::Y, 0, 2), (Component::U, 16, 1), (Component::V, 20, 1)].into_iter().enumerate() {
+                let mut expected = Coded { count: 0, price: 0 };
+                if run >> k & 1 == 1 {
+                    let part = &mut alone[start..start + (1 << (2 * side))];
+                    transform(part, side, side).unwrap();
+                    expected = quantise(part, side, component, settings[k], false, true, &FLAT).unwrap();
+                }
+                assert_eq!(coded[k], expected);
+            }
+            assert_eq!(buffer, alone);
+        }
+    }
+
+    #[test]
+    fn nothing_is_written_before_all_have_passed() {
+        let mut held = vec![100; 24];
+        held[20] = 1024;
+        let mut buffer = held.clone();
+        let settings = [Settings { qp: 4, lambda: 0.5 }; 3];
+        let refused = sub_block(&mut buffer, 2, &settings, 7, true, true, &FLAT);
+        assert_eq!(refused, Err(Refused { refusal: Refusal::Sample, component: Component::V }));
+        assert_eq!(buffer, held);
+        assert!(sub_block(&mut buffer, 2, &settings, 3, true, true, &FLAT).is_ok());
+        assert_eq!(buffer[20..], held[20..]);
     }
 }
