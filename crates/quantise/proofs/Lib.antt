@@ -18,4 +18,3 @@ pub mod Coding
 pub mod Answer
 pub mod Accepting
 pub mod Surplus
-pub mod Limits
