@@ -7,7 +7,7 @@
 #[derive(Clone, Copy, Debug, PartialEq, Eq)]
 #[repr(u32)]
 pub enum Refusal {
-    /// A log2 side is outside 1..5.
+    /// A log2 side is outside 1..5, luma's of three components outside 2..5.
     Side = 1,
     /// QP is above 63.
     Qp = 2,
@@ -17,7 +17,7 @@ pub enum Refusal {
     Cost = 4,
     /// The buffer is shorter than the block.
     Length = 5,
-    /// A residual is outside ±1023.
+    /// A residual is outside ±1023, or a coefficient is -32768.
     Sample = 6,
     /// A rounded magnitude exceeds 32767.
     Level = 7,
