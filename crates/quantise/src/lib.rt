@@ -28,8 +28,8 @@ ghost use Rattle.quantise.specs.Call.{paperOf, quantAnswer, quantBuffer}
 mod distortion;
 mod levels;
 mod prices;
-mod scale;
-mod skip;
+pub mod scale;
+pub mod skip;
 mod walk;
 
 // The count of nonzero levels, and the price.

@@ -1,0 +1,83 @@
+-- `label::page::put_level` stays inside its six bytes.
+-- Assumes nothing.
+use Prim.Native.Nat.{_≤_, _<_, _+_, _-_}
+use borrow.Author.Needs.{needs}
+use Rattle.label.proofs.page.put_level.Statement.{statement}
+use Rattle.label.proofs.page.put_level.Tie as tie
+
+abbrev Inv-loop : tie.InvT-loop
+Inv-loop line₀ at level rest₀ n k₀ line rest k = (k ≤ n)
+
+abbrev μ-loop : tie.MeasureT-loop
+μ-loop line₀ at level rest₀ n k₀ line rest k = n - k
+
+magnitude-requires : tie.Need-magnitude-requires Inv-loop μ-loop
+magnitude-requires c κs = search needs
+
+width-requires : tie.Need-width-requires Inv-loop μ-loop
+width-requires c κs = search needs
+
+loop-holds : tie.Need-loop-holds Inv-loop μ-loop
+loop-holds c = search needs
+
+cast-line : tie.Need-cast-line Inv-loop μ-loop
+cast-line c = search needs
+
+add-line : tie.Need-add-line Inv-loop μ-loop
+add-line c = search needs
+
+add-line-2 : tie.Need-add-line-2 Inv-loop μ-loop
+add-line-2 c = search needs
+
+sub-line : tie.Need-sub-line Inv-loop μ-loop
+sub-line c = search needs
+
+element-write-line : tie.Need-element-write-line Inv-loop μ-loop
+element-write-line c = search needs
+
+add-k : tie.Need-add-k Inv-loop μ-loop
+add-k c = search needs
+
+loop-less : tie.Need-loop-less Inv-loop μ-loop
+loop-less c = search needs
+
+loop-again : tie.Need-loop-again Inv-loop μ-loop
+loop-again c = search needs
+
+add-line-3 : tie.Need-add-line-3 Inv-loop μ-loop
+add-line-3 c = search needs
+
+sub-line-2 : tie.Need-sub-line-2 Inv-loop μ-loop
+sub-line-2 c = search needs
+
+element-write-line-2 : tie.Need-element-write-line-2 Inv-loop μ-loop
+element-write-line-2 c = search needs
+
+returns : tie.Need-returns Inv-loop μ-loop
+returns c = search needs
+
+returns-2 : tie.Need-returns-2 Inv-loop μ-loop
+returns-2 c = search needs
+
+pub put-level-spec : {M : Type 1} → statement M
+put-level-spec =
+    tie.close
+    (tie.spec
+    Inv-loop
+    μ-loop
+    magnitude-requires
+    width-requires
+    loop-holds
+    cast-line
+    add-line
+    add-line-2
+    sub-line
+    element-write-line
+    add-k
+    loop-less
+    loop-again
+    add-line-3
+    sub-line-2
+    element-write-line-2
+    returns
+    returns-2)
