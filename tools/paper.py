@@ -5,7 +5,7 @@ nothing of theirs: recorded answers and the label's expected text are held again
 
 Each rule of the paper is a method of its own, so that a wrong port is a class that changes one of them (tools/wrong_ports.py).
 """
-import math, re, struct, sys
+import functools, math, operator, re, struct, sys
 
 Y, U, V = 0, 1, 2
 
@@ -13,6 +13,10 @@ Y, U, V = 0, 1, 2
 class Refused(Exception):
     def __init__(self, number, component):
         self.number, self.component = number, component
+
+
+class Malformed(Exception):
+    pass
 
 
 class Costs:
@@ -24,7 +28,120 @@ class Costs:
             [entries[i:i + 2] for i in range(a, b, 2)] for a, b in ((0, 8), (8, 16), (16, 20), (20, 28)))
 
 
+class Words:
+    """The words of a request, taken one by one. `buffer` holds the samples, for a refusal's answer."""
+    WHOLE, BITS, LONGEST_LINE, MOST_SAMPLES = rb"0|-?[1-9][0-9]*", rb"[0-9a-f]{16}", 65535, 8192
+
+    def __init__(self, line):
+        self.words, self.at, self.buffer = self.split(line) if len(line) <= self.LONGEST_LINE else [], 0, []
+
+    def split(self, line):
+        return line.split(b" ")
+
+    def word(self):
+        if self.at == len(self.words):
+            raise Malformed
+        self.at += 1
+        return self.words[self.at - 1]
+
+    def whole(self, least, most):
+        w = self.word()
+        # no type's numbers have more than 20 digits
+        if len(w) > 20 or not re.fullmatch(self.WHOLE, w) or not least <= int(w) <= most:
+            raise Malformed
+        return int(w)
+
+    def component(self):
+        return self.whole(0, 2)
+
+    def log2(self):
+        return self.whole(0, 2 ** 64 - 1)
+
+    def u32(self):
+        return self.whole(0, 2 ** 32 - 1)
+
+    def flag(self):
+        return self.u32() != 0
+
+    def f64(self):
+        w = self.word()
+        if not re.fullmatch(self.BITS, w):
+            raise Malformed
+        return struct.unpack(">d", bytes.fromhex(w.decode()))[0]
+
+    def costs(self):
+        return Costs([self.whole(0, 2 ** 64 - 1) for _ in range(28)])
+
+    def sample(self):
+        return self.whole(-32768, 32767)
+
+    def samples(self):
+        self.buffer = [self.sample() for _ in range(self.whole(0, self.MOST_SAMPLES))]
+        self.end()
+        return self.buffer
+
+    def end(self):
+        if self.at != len(self.words):
+            raise Malformed
+
+
+class Block:
+    """What a block is coded by, in scan order, and what levels of it cost."""
+
+    def __init__(self, paper, coefficients, log2, component, qp, d, intra_slice, intra_coded, costs):
+        self.paper, self.component, self.qp, self.costs, self.coefficients = paper, component, qp, costs, coefficients
+        self.b, self.scale, self.lambda_ = paper.b(log2, qp), paper.error_scale(log2, qp), paper.lambda_of(d)
+        self.places = paper.scan(1 << log2)
+        self.scaled = [paper.scaled(coefficients[p], qp) for p in self.places]
+        self.rounded = [paper.m(x, self.b) for x in self.scaled]
+        self.skipped = paper.is_skipped(self, intra_slice, intra_coded)
+        self.cbf, self.last = costs.cbf[paper.cbf_row(component, intra_coded)], costs.last[paper.last_row(component)]
+        # the distortions of 0 from a place on; from place 0 that is D
+        self.uncoded = [0]
+        for p in reversed(range(len(self.scaled))):
+            self.uncoded.append(self.uncoded[-1] + paper.zero_distortion(self, p))
+        self.uncoded.reverse()
+
+    def distortion(self, p, a):
+        return self.paper.error(self.scaled[p] - (a << self.b), self.scale) ** 2
+
+    def cost(self, p, a, before):
+        return self.distortion(p, a) + self.lambda_ * self.paper.rate(a, self.component, before, self.costs)
+
+    def empty_price(self):
+        return self.uncoded[0] + self.lambda_ * self.paper.empty_flag(self.cbf)
+
+    def cuts(self, levels):
+        """The empty block, and the levels ended at each nonzero one: what each costs, and how many places it keeps."""
+        found = [(self.empty_price(), 0)]
+        spent, before = self.lambda_ * self.paper.coded_flag(self.cbf), self.paper.start()
+        for p, a in enumerate(levels):
+            spent += self.cost(p, a, before)
+            if self.paper.may_end(a):
+                found.append((spent + self.lambda_ * self.paper.last_flag(self.last) + self.uncoded[p + 1], p + 1))
+            if a:
+                spent += self.lambda_ * self.paper.more_flag(self.last)
+            before = a
+        return found
+
+    def price(self, levels):
+        """Of a finished block, whatever chose its levels."""
+        nonzero = [p for p, a in enumerate(levels) if a]
+        if not nonzero:
+            return self.empty_price()
+        end = nonzero[-1] + 1
+        befores = [self.paper.start()] + levels
+        places = sum(self.cost(p, levels[p], befores[p]) for p in range(end))
+        flags = self.paper.coded_flag(self.cbf) + (len(nonzero) - 1) * self.paper.more_flag(self.last) + self.paper.last_flag(self.last)
+        return places + self.uncoded[end] + self.lambda_ * flags
+
+
 class Paper:
+    Words = Words
+    # what refusals 1, 2, 3, 4, 6, 7, 8 and 9 still let pass
+    LEAST_SIDE, LEAST_LUMA, MOST_SIDE = 1, 2, 5
+    QP, LAMBDA, COST, RESIDUAL, COEFFICIENT, LEVEL, PRICE, DISTORTION = 63, 8192, 1048576, 1023, 32767, 32767, 1 << 41, 1 << 60
+
     # ---- transform
     # column 0 of T_32; every entry of every matrix follows from it
     COLUMN = [64, 90, 90, 90, 89, 88, 87, 85, 84, 82, 80, 78, 75, 73, 70, 67, 64, 61, 57, 54, 50, 47, 43, 39, 35, 30, 26, 22, 18, 13, 9, 4]
@@ -37,32 +154,26 @@ class Paper:
             a = 128 - a
         return self.COLUMN[a] if a < 32 else -self.COLUMN[64 - a]
 
+    @functools.cache
     def matrix(self, log2):
         side = 1 << log2
         return [[self.entry(k * 32 // side, n) for n in range(side)] for k in range(side)]
+
+    def first_stage(self, value, lw):
+        return value
 
     def shift_right(self, value, bits):
         """Rounded, halves upward: flooring."""
         return (value + (1 << (bits - 1))) >> bits
 
-    def first_stage(self, value, lw):
-        return value
-
-    def residual_bound(self):
-        return 1023
-
     def coefficients(self, residuals, lw, lh):
-        w, h = 1 << lw, 1 << lh
-        across, down = self.matrix(lw), self.matrix(lh)
-        rows = [[self.first_stage(sum(t * r for t, r in zip(across[u], residuals[y * w:y * w + w])), lw) for u in range(w)] for y in range(h)]
-        columns = list(zip(*rows))
-        bits = 7 + lw + lh
-        return [self.shift_right(sum(t * r for t, r in zip(down[v], columns[u])), bits) for v in range(h) for u in range(w)]
+        w, bits = 1 << lw, 7 + lw + lh
+        product = lambda a, b: sum(map(operator.mul, a, b))
+        rows = [residuals[i:i + w] for i in range(0, len(residuals), w)]
+        staged = [[self.first_stage(product(t, row), lw) for row in rows] for t in self.matrix(lw)]
+        return [self.shift_right(product(t, column), bits) for t in self.matrix(lh) for column in staged]
 
-    def wild(self, residuals):
-        return any(abs(r) > self.residual_bound() for r in residuals)
-
-    # ---- quantiser: scales
+    # ---- quantiser: scales, skip, scan
     SCALES = [26214, 23302, 20560, 18396, 16384, 14564]
 
     def q(self, qp):
@@ -87,20 +198,24 @@ class Paper:
         """Flooring, for negatives too."""
         return (difference * scale) >> 20
 
-    def distortion(self, scaled, a, log2, qp):
-        return self.error(scaled - (a << self.b(log2, qp)), self.error_scale(log2, qp)) ** 2
+    def zero_distortion(self, block, p):
+        return block.distortion(p, 0)
 
     def threshold(self, intra_slice, b):
         return (1 << b) - ((201 if intra_slice else 153) << (b - 9))
 
-    def is_skipped(self, scaled, intra_slice, b):
-        return all(x < self.threshold(intra_slice, b) for x in scaled)
+    def is_skipped(self, block, intra_slice, intra_coded):
+        return all(x < self.threshold(intra_slice, block.b) for x in block.scaled)
+
+    def skipped_price(self, block):
+        return 0
 
     def diagonal(self, d, side):
         """A diagonal's columns in scan order."""
         xs = [x for x in range(side) if 0 <= d - x < side]
         return xs[::-1] if d % 2 == 1 else xs
 
+    @functools.cache
     def scan(self, side):
         return [(d - x) * side + x for d in range(2 * side - 1) for x in self.diagonal(d, side)]
 
@@ -136,6 +251,18 @@ class Paper:
             return self.SIGN + costs.run[k][0] + costs.level[j][0]
         return self.SIGN + costs.run[k][0] + costs.level[j][1] + (a - 2) * costs.level[j + 1][1] + costs.level[j + 1][0]
 
+    def empty_flag(self, cbf):
+        return cbf[0]
+
+    def coded_flag(self, cbf):
+        return cbf[1]
+
+    def more_flag(self, last):
+        return last[0]
+
+    def last_flag(self, last):
+        return last[1]
+
     # ---- quantiser: walk, cut, price
     def allowed(self, m):
         """In the order in which ties prefer them."""
@@ -143,258 +270,201 @@ class Paper:
 
     def walk(self, block):
         levels, before = [], self.start()
-        for x in block.scaled:
-            before = min(self.allowed(self.m(x, block.b)), key=lambda a: block.cost(x, a, before))
+        for p, m in enumerate(block.rounded):
+            before = min(self.allowed(m), key=lambda a: block.cost(p, a, before))
             levels.append(before)
         return levels
+
+    def may_end(self, a):
+        return a != 0
 
     def cut(self, priced):
         """Of pairs (price, places kept), the empty block first: the first of least price."""
         return min(priced, key=lambda p: p[0])[1]
 
-    def written(self, block):
+    def chosen(self, block):
         levels = self.walk(block)
         cut = self.cut(block.cuts(levels))
         return levels[:cut] + [0] * (len(levels) - cut)
 
-    def reported_price(self, block, levels):
+    def price(self, block, levels):
         return block.price(levels)
 
-    # ---- the calls
-    def test_lambda(self, d):
-        return not 0 <= d <= 8192
+    def count(self, block, levels):
+        return sum(a != 0 for a in levels)
 
-    def test_costs(self, costs, run):
-        return any(not 0 <= e <= 1048576 for e in costs.entries)
+    def coded(self, coefficients, *settings):
+        """Count, price and levels of a block that refusals 1 to 6 let pass; settings as Block has them."""
+        block = Block(self, coefficients, *settings)
+        self.first_fault(self.late_tests(block.component, lambda: block))
+        return self.finished(block)
 
-    def test_qp(self, qp):
-        return qp > 63
-
-    def test_side(self, log2, least=1):
-        return not least <= log2 <= 5
-
-    def coded(self, coefficients, log2, component, qp, d, intra_slice, intra_coded, costs):
-        """Count, price and levels of a block that refusals 1 to 6 let pass."""
-        block = Block(self, coefficients, log2, component, qp, d, intra_slice, intra_coded, costs)
+    def finished(self, block):
+        """The same of a block that all refusals let pass."""
         if block.skipped:
-            return 0, 0, [0] * len(coefficients)
-        top = max(self.m(x, block.b) for x in block.scaled)
-        for number, fault in self.late_faults(block, top):
-            if fault:
-                raise Refused(number, component)
-        levels = self.written(block)
-        out = [0] * len(coefficients)
-        for place, a in zip(block.places, levels):
-            out[place] = -a if coefficients[place] < 0 else a
-        return sum(a != 0 for a in levels), self.reported_price(block, levels), out
+            return 0, self.skipped_price(block), self.cleared(block)
+        levels = self.chosen(block)
+        out = [0] * len(levels)
+        for p, a in zip(block.places, levels):
+            out[p] = -a if block.coefficients[p] < 0 else a
+        return self.count(block, levels), self.price(block, levels), out
 
-    def late_faults(self, block, top):
-        return [(7, top > 32767), (8, block.lambda_ * (top + 1) > 1 << 41), (9, block.uncoded(0) > 1 << 60)]
+    def cleared(self, block):
+        return [0] * len(block.coefficients)
+
+    # ---- refusals: a test is a number, a component and a question; the first that says yes is given
+    def ordered(self, tests):
+        return tests
+
+    def first_fault(self, tests):
+        for number, component, fault in self.ordered(tests):
+            if fault():
+                raise Refused(number, component)
+
+    def side_fault(self, log2, least):
+        return not least <= log2 <= self.MOST_SIDE
+
+    def qp_fault(self, qp):
+        return qp > self.QP
+
+    def lambda_fault(self, d):
+        return not 0 <= d <= self.LAMBDA
+
+    def cost_fault(self, costs, run):
+        return any(not 0 <= e <= self.COST for e in costs.entries)
+
+    def residual_fault(self, residuals):
+        return any(abs(r) > self.RESIDUAL for r in residuals)
+
+    def coefficient_fault(self, coefficients):
+        return any(c < -self.COEFFICIENT for c in coefficients)
+
+    def late_tests(self, component, block):
+        """7, 8 and 9; `block` is asked for only when 1 to 6 have passed."""
+        walked = lambda: self.meets_late_tests(block())
+        return [
+            (7, component, lambda: walked() and max(block().rounded) > self.LEVEL),
+            (8, component, lambda: walked() and block().lambda_ * (max(block().rounded) + 1) > self.PRICE),
+            (9, component, lambda: walked() and block().uncoded[0] > self.DISTORTION),
+        ]
+
+    def meets_late_tests(self, block):
+        return not block.skipped
+
+    # ---- the calls. A side that is refused stands for any large number of places here: no buffer has 2^40.
+    def places(self, lw, lh):
+        return 1 << min(lw + lh, 40)
+
+    def sampled(self, buffer, n):
+        """What refusal 6 looks at."""
+        return buffer[:n]
 
     def transform(self, buffer, lw, lh):
-        if self.test_side(lw) or self.test_side(lh):
-            raise Refused(1, 0)
-        n = 1 << (lw + lh)
-        if len(buffer) < n:
-            raise Refused(5, 0)
-        if self.wild(buffer[:n]):
-            raise Refused(6, 0)
+        n = self.places(lw, lh)
+        self.first_fault([
+            (1, 0, lambda: self.side_fault(lw, self.LEAST_SIDE) or self.side_fault(lh, self.LEAST_SIDE)),
+            (5, 0, lambda: len(buffer) < n),
+            (6, 0, lambda: self.residual_fault(self.sampled(buffer, n))),
+        ])
         return self.coefficients(buffer[:n], lw, lh) + buffer[n:]
 
     def quantise(self, buffer, log2, component, qp, d, intra_slice, intra_coded, costs):
         """Count, price and buffer."""
-        tests = [
-            (1, 0, lambda: self.test_side(log2)),
-            (2, component, lambda: self.test_qp(qp)),
-            (3, component, lambda: self.test_lambda(d)),
-            (4, 0, lambda: self.test_costs(costs, 7)),
-            (5, 0, lambda: len(buffer) < 1 << (2 * log2)),
-            (6, component, lambda: -32768 in buffer[:1 << (2 * log2)]),
-        ]
-        self.first_fault(tests)
-        n = 1 << (2 * log2)
-        count, price, levels = self.coded(buffer[:n], log2, component, qp, d, intra_slice, intra_coded, costs)
+        n = self.places(log2, log2)
+        block = functools.cache(lambda: Block(self, buffer[:n], log2, component, qp, d, intra_slice, intra_coded, costs))
+        self.first_fault([
+            (1, 0, lambda: self.side_fault(log2, self.LEAST_SIDE)),
+            (2, component, lambda: self.qp_fault(qp)),
+            (3, component, lambda: self.lambda_fault(d)),
+            (4, 0, lambda: self.cost_fault(costs, 1 << component)),
+            (5, 0, lambda: len(buffer) < n),
+            (6, component, lambda: self.coefficient_fault(self.sampled(buffer, n))),
+        ] + self.late_tests(component, block))
+        count, price, levels = self.finished(block())
         return count, price, levels + buffer[n:]
-
-    def first_fault(self, tests):
-        for number, component, fault in tests:
-            if fault():
-                raise Refused(number, component)
 
     def runs(self, run, component):
         return run >> component & 1 == 1
 
-    def sides(self, luma):
-        return [luma, luma - 1, luma - 1]
+    def settings_read(self, run):
+        return [k for k in (Y, U, V) if self.runs(run, k)]
+
+    def samples_read(self, run):
+        return [k for k in (Y, U, V) if self.runs(run, k)]
 
     def stretches(self, luma):
-        """Where each component's stretch starts, and the end of all."""
-        n = 1 << (2 * luma)
-        return [0, n, n + n // 4, n + n // 4 + n // 4]
+        """Where each component's stretch starts and ends."""
+        n = self.places(luma, luma)
+        return [(0, n), (n, n + n // 4), (n + n // 4, n + n // 2)]
+
+    def needed(self, luma, run):
+        n = self.places(luma, luma)
+        return n + n // 2
 
     def sub_block(self, buffer, luma, run, qp, d, intra_slice, intra_coded, costs):
         """Count and price of each component, and the buffer."""
+        at, side = self.stretches(luma), lambda k: luma if k == Y else luma - 1
+        held = lambda k: buffer[at[k][0]:at[k][1]]
+
+        @functools.cache
+        def block(k):
+            return Block(self, self.coefficients(held(k), side(k), side(k)), side(k), k, qp[k], d[k], intra_slice, intra_coded, costs)
+
         run_ones = [k for k in (Y, U, V) if self.runs(run, k)]
-        self.first_fault([(1, 0, lambda: self.test_side(luma, 2))])
-        at = self.stretches(luma)
-        of = [buffer[at[k]:at[k + 1]] for k in (Y, U, V)]
-        tests = [(2, k, lambda k=k: self.test_qp(qp[k])) for k in run_ones]
-        tests += [(3, k, lambda k=k: self.test_lambda(d[k])) for k in run_ones]
-        tests += [(4, 0, lambda: self.test_costs(costs, run))]
-        tests += [(5, 0, lambda: len(buffer) < at[3])]
-        tests += [(6, k, lambda k=k: self.wild(of[k])) for k in run_ones]
+        tests = [(1, 0, lambda: self.side_fault(luma, self.LEAST_LUMA))]
+        tests += [(2, k, lambda k=k: self.qp_fault(qp[k])) for k in self.settings_read(run)]
+        tests += [(3, k, lambda k=k: self.lambda_fault(d[k])) for k in self.settings_read(run)]
+        tests += [(4, 0, lambda: self.cost_fault(costs, run)), (5, 0, lambda: len(buffer) < self.needed(luma, run))]
+        tests += [(6, k, lambda k=k: self.residual_fault(self.sampled(buffer, at[k][1])[at[k][0]:])) for k in self.samples_read(run)]
+        for k in run_ones:
+            tests += self.late_tests(k, lambda k=k: block(k))
         self.first_fault(tests)
-        answers, parts = [], []
+        answers, after = [], list(buffer)
         for k in (Y, U, V):
-            count, price, part = self.component(k, of[k], k in run_ones, self.sides(luma)[k], qp[k], d[k], intra_slice, intra_coded, costs)
+            count, price, after[slice(*at[k])] = self.finished(block(k)) if k in run_ones else self.not_run(held(k))
             answers.append((count, price))
-            parts += part
-            self.written_so_far(buffer, parts)
-        return answers, parts + buffer[at[3]:]
+        return answers, after
 
-    def component(self, k, residuals, is_run, log2, qp, d, intra_slice, intra_coded, costs):
-        if not is_run:
-            return 0, 0, residuals
-        return self.coded(self.coefficients(residuals, log2, log2), log2, k, qp, d, intra_slice, intra_coded, costs)
-
-    def written_so_far(self, buffer, parts):
-        """Nothing is written until all have passed."""
+    def not_run(self, residuals):
+        return 0, 0, residuals
 
     # ---- the line protocol
+    def lines(self, data):
+        """A last line may lack its newline."""
+        lines = data.split(b"\n")
+        return lines if lines[-1] else lines[:-1]
+
     def answer(self, line):
         """A request line, bytes without its newline, to its answer line."""
-        words = Words(line)
+        words = self.Words(line)
         try:
-            return self.answered(words)
+            head, buffer = self.answered(words)
         except Malformed:
             return b"malformed"
-        except Refused as r:
-            return b" ".join([b"refused %d %d :" % (r.number, r.component)] + [b"%d" % v for v in words.buffer])
+        except Refused as refused:
+            head, buffer = b"refused %d %d :" % (refused.number, refused.component), words.buffer
+        return b" ".join([head] + [b"%d" % v for v in buffer])
 
     def answered(self, words):
         verb = words.word()
         if verb == b"transform":
-            lw, lh = words.whole(0, 2 ** 64 - 1), words.whole(0, 2 ** 64 - 1)
-            head, after = b"accepted :", self.transform(words.samples(), lw, lh)
-        elif verb == b"quantise":
-            component, log2, qp, d = words.whole(0, 2), words.whole(0, 2 ** 64 - 1), words.u32(), words.f64()
-            slice_, coded, costs = words.u32() != 0, words.u32() != 0, words.costs()
+            lw, lh = words.log2(), words.log2()
+            return b"accepted :", self.transform(words.samples(), lw, lh)
+        if verb == b"quantise":
+            component, log2, qp, d = words.component(), words.log2(), words.u32(), words.f64()
+            slice_, coded, costs = words.flag(), words.flag(), words.costs()
             count, price, after = self.quantise(words.samples(), log2, component, qp, d, slice_, coded, costs)
-            head = b"accepted %d %d :" % (count, price)
-        elif verb == b"subblock":
-            log2, run = words.whole(0, 2 ** 64 - 1), words.u32()
-            settings = [(words.u32(), words.f64()) for k in (Y, U, V)]
-            slice_, coded, costs = words.u32() != 0, words.u32() != 0, words.costs()
-            buffer = words.samples()
-            answers, after = self.sub_block(buffer, log2, run, [s[0] for s in settings], [s[1] for s in settings], slice_, coded, costs)
-            head = b"accepted %s :" % b" ".join(b"%d %d" % a for a in answers)
-        else:
-            raise Malformed
-        return b" ".join([head] + [b"%d" % v for v in after])
-
-
-class Block:
-    """What a block is coded by, in scan order."""
-
-    def __init__(self, paper, coefficients, log2, component, qp, d, intra_slice, intra_coded, costs):
-        self.paper, self.log2, self.component, self.qp, self.costs = paper, log2, component, qp, costs
-        self.b = paper.b(log2, qp)
-        self.lambda_ = paper.lambda_of(d)
-        self.places = paper.scan(1 << log2)
-        self.scaled = [paper.scaled(coefficients[p], qp) for p in self.places]
-        self.skipped = paper.is_skipped(self.scaled, intra_slice, self.b)
-        self.cbf = costs.cbf[paper.cbf_row(component, intra_coded)]
-        self.last = costs.last[paper.last_row(component)]
-        self.zeros = [paper.distortion(x, 0, log2, qp) for x in self.scaled]
-        self.tails = [0]
-        for z in reversed(self.zeros):
-            self.tails.append(self.tails[-1] + z)
-        self.tails.reverse()
-
-    def uncoded(self, place):
-        """The distortions of 0 from a place on; from place 0 that is D."""
-        return self.tails[place]
-
-    def cost(self, x, a, before):
-        return self.paper.distortion(x, a, self.log2, self.qp) + self.lambda_ * self.paper.rate(a, self.component, before, self.costs)
-
-    def cuts(self, levels):
-        """The empty block, and the levels ended at each nonzero one: what each costs, and how many places it keeps."""
-        found = [(self.uncoded(0) + self.lambda_ * self.cbf[0], 0)]
-        spent, before = self.lambda_ * self.cbf[1], self.paper.start()
-        for p, a in enumerate(levels):
-            spent += self.cost(self.scaled[p], a, before)
-            if a:
-                found.append((spent + self.lambda_ * self.last[1] + self.uncoded(p + 1), p + 1))
-                spent += self.lambda_ * self.last[0]
-            before = a
-        return found
-
-    def price(self, levels):
-        """Of a finished block, whatever chose its levels."""
-        nonzero = [p for p, a in enumerate(levels) if a]
-        if not nonzero:
-            return self.uncoded(0) + self.lambda_ * self.cbf[0]
-        end = nonzero[-1] + 1
-        befores = [self.paper.start()] + levels
-        costs = sum(self.cost(self.scaled[p], levels[p], befores[p]) for p in range(end))
-        return costs + self.uncoded(end) + self.lambda_ * (self.cbf[1] + self.last[0] * (len(nonzero) - 1) + self.last[1])
-
-
-class Malformed(Exception):
-    pass
-
-
-class Words:
-    """The words of a request, taken one by one. `buffer` holds the samples, for a refusal's answer."""
-
-    def __init__(self, line):
-        if len(line) > 65535:
-            raise Malformed
-        self.words, self.at, self.buffer = line.split(b" "), 0, []
-
-    def word(self):
-        if self.at == len(self.words):
-            raise Malformed
-        self.at += 1
-        return self.words[self.at - 1]
-
-    def whole(self, least, most):
-        w = self.word()
-        if not re.fullmatch(rb"0|-?[1-9][0-9]*", w) or not least <= int(w) <= most:
-            raise Malformed
-        return int(w)
-
-    def u32(self):
-        return self.whole(0, 2 ** 32 - 1)
-
-    def f64(self):
-        w = self.word()
-        if not re.fullmatch(rb"[0-9a-f]{16}", w):
-            raise Malformed
-        return struct.unpack(">d", bytes.fromhex(w.decode()))[0]
-
-    def costs(self):
-        return Costs([self.whole(0, 2 ** 64 - 1) for _ in range(28)])
-
-    def samples(self):
-        n = self.whole(0, 8192)
-        self.buffer = [self.whole(-32768, 32767) for _ in range(n)]
-        if self.at != len(self.words):
-            raise Malformed
-        return list(self.buffer)
-
-
-def lines(data):
-    """A last line may lack its newline."""
-    return data.split(b"\n")[:-1] if data.endswith(b"\n") else data.split(b"\n") if data else []
-
-
-def answer(paper, line):
-    return paper.answer(line) if len(line) <= 65535 else b"malformed"
+            return b"accepted %d %d :" % (count, price), after
+        if verb == b"subblock":
+            log2, run = words.log2(), words.u32()
+            qp, d = zip(*[(words.u32(), words.f64()) for k in (Y, U, V)])
+            slice_, coded, costs = words.flag(), words.flag(), words.costs()
+            answers, after = self.sub_block(words.samples(), log2, run, qp, d, slice_, coded, costs)
+            return b"accepted %s :" % b" ".join(b"%d %d" % a for a in answers), after
+        raise Malformed
 
 
 if __name__ == "__main__":
     paper = Paper()
-    for line in lines(sys.stdin.buffer.read()):
-        sys.stdout.buffer.write(answer(paper, line) + b"\n")
+    for line in paper.lines(sys.stdin.buffer.read()):
+        sys.stdout.buffer.write(paper.answer(line) + b"\n")

@@ -1,0 +1,4 @@
+mod Handing
+mod Moved
+mod Reading
+pub mod Told

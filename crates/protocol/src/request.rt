@@ -1,0 +1,156 @@
+// The fields of a request: numbers before the samples, each by its kind, and then the samples.
+use crate::number::Natural;
+use crate::number::Sample;
+use crate::number::double_of;
+use crate::number::read_bits;
+use crate::number::read_natural;
+use crate::number::read_sample;
+use crate::words::word_end;
+use price::Costs;
+use price::Settings;
+use refusals::Component;
+use subblock::Request;
+ghost use mathlib.Core.Path.{_≡_};
+ghost use Prim.Native.Nat.{_≤_};
+ghost use lib.ListN.{length, getD};
+ghost use Rattle.protocol.specs.Request.{limitOf, fieldOf, Within};
+
+// The cursor after some fields, or that one of them is malformed.
+pub enum Place {
+    At(usize),
+    Malformed,
+}
+
+// The most that a field of a kind can be: how many samples follow, a component, a number of 32 bits, any number.
+fn limit_of(kind: u8) -> u64
+    ensures { λ r. ⌜ r ≡ limitOf kind ⌝ }
+{
+    if kind == b'n' {
+        return 8192;
+    }
+    if kind == b'c' {
+        return 2;
+    }
+    if kind == b'i' {
+        return 4294967295;
+    }
+    18446744073709551615
+}
+
+fn read_field(word: &[u8], kind: u8) -> Natural
+    ensures { λ r. ⌜ r ≡ fieldOf kind (now (word .entry)) ⌝ }
+{
+    if kind == b'x' {
+        return read_bits(word);
+    }
+    read_natural(word, limit_of(kind))
+}
+
+// A field for each kind, from the cursor `at` on.
+pub fn read_fields(line: &[u8], at: usize, kinds: &[u8], fields: &mut [u64; 40]) -> Place
+    requires { ⌜ length (now kinds) ≤ 40 ⌝ }
+    ensures { λ r. ⌜ Within r (now (kinds .entry)) (now (fields .exit)) ⌝ }
+{
+    let mut next = at;
+    let mut i = 0;
+    while i < kinds.len() {
+        if line.len() < next {
+            return Place::Malformed;
+        }
+        let end = word_end(line, next);
+        let Natural::Is(v) = read_field(&line[next..end], kinds[i]) else {
+            return Place::Malformed;
+        };
+        fields[i] = v;
+        next = end + 1;
+        i += 1;
+    }
+    Place::At(next)
+}
+
+// Whether exactly as many samples follow as there is room for.
+pub fn read_samples(line: &[u8], at: usize, room: &mut [i16]) -> bool {
+    let n = room.len();
+    let mut next = at;
+    let mut i = 0;
+    while i < n {
+        if line.len() < next {
+            return false;
+        }
+        let end = word_end(line, next);
+        let Sample::Is(v) = read_sample(&line[next..end]) else {
+            return false;
+        };
+        room[i] = v;
+        next = end + 1;
+        i += 1;
+    }
+    line.len() < next
+}
+
+pub fn component_of(n: u64) -> Component {
+    match n {
+        0 => Component::Y,
+        1 => Component::U,
+        _ => Component::V,
+    }
+}
+
+// A QP and a LAMBDA.
+pub fn settings_of(fields: &[u64; 40], i: usize) -> Settings
+    requires { ⌜ (i ≤ 38) × (getD (now fields) i 0 ≤ 4294967295) ⌝ }
+{
+    Settings {
+        qp: fields[i] as u32,
+        lambda: double_of(fields[i + 1]),
+    }
+}
+
+fn four(f: &[u64; 40], i: usize) -> [u64; 4]
+    requires { ⌜ i ≤ 36 ⌝ }
+{
+    [f[i], f[i + 1], f[i + 2], f[i + 3]]
+}
+
+fn eight(f: &[u64; 40], i: usize) -> [u64; 8]
+    requires { ⌜ i ≤ 32 ⌝ }
+{
+    [
+        f[i],
+        f[i + 1],
+        f[i + 2],
+        f[i + 3],
+        f[i + 4],
+        f[i + 5],
+        f[i + 6],
+        f[i + 7],
+    ]
+}
+
+// COSTS.
+pub fn costs_of(fields: &[u64; 40], i: usize) -> Costs
+    requires { ⌜ i ≤ 12 ⌝ }
+{
+    Costs {
+        run: eight(fields, i),
+        level: eight(fields, i + 8),
+        last: four(fields, i + 16),
+        cbf: eight(fields, i + 20),
+    }
+}
+
+// What `subblock` asks: LOG2 RUN QPY LAMBDAY QPU LAMBDAU QPV LAMBDAV INTRA_SLICE INTRA_CODED, COSTS.
+pub fn request_of(fields: &[u64; 40]) -> Request
+    requires { ⌜ (getD (now fields) 1 0 ≤ 4294967295) × (getD (now fields) 2 0 ≤ 4294967295) × (getD (now fields) 4 0 ≤ 4294967295) × (getD (now fields) 6 0 ≤ 4294967295) ⌝ }
+{
+    Request {
+        side: fields[0] as usize,
+        y: settings_of(fields, 2),
+        u: settings_of(fields, 4),
+        v: settings_of(fields, 6),
+        run: fields[1] as u32,
+        slice: fields[8] != 0,
+        coded: fields[9] != 0,
+        costs: costs_of(fields, 10),
+    }
+}

@@ -1,0 +1,52 @@
+-- `replay::show` meets its contract: the answer's bytes stand in `out`.
+-- Assumes nothing.
+use mathlib.Core.Path.{sym}
+use lib.Seq.{length-take-le}
+use borrow.Author.Needs.{needs}
+use Rattle.replay.proofs.show.Statement.{statement}
+use Rattle.replay.proofs.show.Tie as tie
+
+slice-aggregate-write-all : tie.Need-slice-aggregate-write-all
+slice-aggregate-write-all c = search needs
+
+write-all-requires : tie.Need-write-all-requires
+write-all-requires c κs = search needs
+
+print-decimal-requires : tie.Need-print-decimal-requires
+print-decimal-requires c κs = search needs
+
+slice-aggregate-write-all-2 : tie.Need-slice-aggregate-write-all-2
+slice-aggregate-write-all-2 c = search needs
+
+write-all-requires-2 : tie.Need-write-all-requires-2
+write-all-requires-2 c κs = search needs
+
+slice-aggregate-write-all-3 : tie.Need-slice-aggregate-write-all-3
+slice-aggregate-write-all-3 c = sym (length-take-le _ _ (c .before .before .before .before .before .before .before .pre))
+
+write-all-requires-3 : tie.Need-write-all-requires-3
+write-all-requires-3 c κs = search needs
+
+slice-aggregate-write-all-4 : tie.Need-slice-aggregate-write-all-4
+slice-aggregate-write-all-4 c = search needs
+
+write-all-requires-4 : tie.Need-write-all-requires-4
+write-all-requires-4 c κs = search needs
+
+returns : tie.Need-returns
+returns c = search needs
+
+pub show-spec : {M : Type 1} → statement M
+show-spec =
+    tie.close
+    (tie.spec
+    slice-aggregate-write-all
+    write-all-requires
+    print-decimal-requires
+    slice-aggregate-write-all-2
+    write-all-requires-2
+    slice-aggregate-write-all-3
+    write-all-requires-3
+    slice-aggregate-write-all-4
+    write-all-requires-4
+    returns)

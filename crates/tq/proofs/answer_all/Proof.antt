@@ -1,0 +1,111 @@
+-- `tq::answer_all` meets its contract: what is left of the input stands in the buffer at each turn. The measure is the number of turns that
+-- are left.
+-- Assumes nothing.
+use mathlib.Core.Path.{_≡_}
+use lib.ListN.{length}
+use borrow.Author.Needs.{needs}
+use Rattle.lines.proofs.Told.{told-at, told-too-long}
+use Rattle.lines.specs.Lines.{Within}
+use Rattle.tq.proofs.answer_all.Statement.{statement}
+use Rattle.tq.proofs.answer_all.Tie as tie
+
+abbrev Inv-loop : tie.InvT-loop
+Inv-loop buf₀ out₀ c₀ turns₀ buf out c turns = Within c buf × (length buf ≡ length buf₀)
+
+abbrev μ-loop : tie.MeasureT-loop
+μ-loop buf₀ out₀ c₀ turns₀ buf out c turns = turns
+
+start-requires : tie.Need-start-requires Inv-loop μ-loop
+start-requires c κs = search needs
+
+loop-holds : tie.Need-loop-holds Inv-loop μ-loop
+loop-holds c = search needs
+
+sub-turns : tie.Need-sub-turns Inv-loop μ-loop
+sub-turns c = search needs
+
+next-requires : tie.Need-next-requires Inv-loop μ-loop
+next-requires c κs = search needs
+
+enum-known-from : tie.Need-enum-known-from Inv-loop μ-loop
+enum-known-from c = search needs
+
+sub-answer : tie.Need-sub-answer Inv-loop μ-loop
+sub-answer c = (told-at _ _ _ (c .before .from .given .1) (c .before .before .before .before .before .next .ensures)) .order
+
+part-answer-start : tie.Need-part-answer-start Inv-loop μ-loop
+part-answer-start c = (told-at _ _ _ (c .before .before .from .given .1) (c .before .before .before .before .before .before .next .ensures)) .order
+
+part-answer-end : tie.Need-part-answer-end Inv-loop μ-loop
+part-answer-end c = (told-at _ _ _ (c .before .before .from .given .1) (c .before .before .before .before .before .before .next .ensures)) .held
+
+answer-requires : tie.Need-answer-requires Inv-loop μ-loop
+answer-requires c κs = search needs
+
+loop-less : tie.Need-loop-less Inv-loop μ-loop
+loop-less c = search needs
+
+loop-again : tie.Need-loop-again Inv-loop μ-loop
+loop-again c = (
+  (told-at _ _ _ (c .before .before .before .before .before .from .given .1)
+      (c .before .before .before .before .before .before .before .before .before .next .ensures)) .left,
+  search needs,
+)
+
+enum-known-rest : tie.Need-enum-known-rest Inv-loop μ-loop
+enum-known-rest c = search needs
+
+answer-too-long-requires : tie.Need-answer-too-long-requires Inv-loop μ-loop
+answer-too-long-requires c κs = search needs
+
+loop-less-2 : tie.Need-loop-less-2 Inv-loop μ-loop
+loop-less-2 c = search needs
+
+loop-again-2 : tie.Need-loop-again-2 Inv-loop μ-loop
+loop-again-2 c = (
+  told-too-long _ _ _ (c .before .before .before .rest .given .1)
+      (c .before .before .before .before .before .before .before .next .ensures),
+  search needs,
+)
+
+enum-told : tie.Need-enum-told Inv-loop μ-loop
+enum-told c = search needs
+
+same-length : tie.Need-same-length Inv-loop μ-loop
+same-length c = search needs
+
+returns : tie.Need-returns Inv-loop μ-loop
+returns c = search needs
+
+same-length-2 : tie.Need-same-length-2 Inv-loop μ-loop
+same-length-2 c = search needs
+
+returns-2 : tie.Need-returns-2 Inv-loop μ-loop
+returns-2 c = search needs
+
+pub answer-all-spec : {M : Type 1} → statement M
+answer-all-spec =
+    tie.close
+    (tie.spec
+    Inv-loop
+    μ-loop
+    start-requires
+    loop-holds
+    sub-turns
+    next-requires
+    enum-known-from
+    sub-answer
+    part-answer-start
+    part-answer-end
+    answer-requires
+    loop-less
+    loop-again
+    enum-known-rest
+    answer-too-long-requires
+    loop-less-2
+    loop-again-2
+    enum-told
+    same-length
+    returns
+    same-length-2
+    returns-2)

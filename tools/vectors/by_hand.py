@@ -1,0 +1,602 @@
+"""The requests of crates/tq/stdin: document 01's numbers, every limit with its neighbour, every kind of malformed line. A section is a function
+that gives lines; SECTIONS is their order. The file has nothing but requests, so that what a line is for stands here."""
+import math
+from vectors.lines import BELOW_HALF, FLAT, USUAL, bits, costs, put, quantise, subblock, transform
+
+NAN = "7ff8000000000000"
+# one residual block of each component, none of which vanishes at QP 4
+PICTURE = [100, -80, 60, -40, 90, -70, 50, -30, 20, 10, 0, -10, 5, -5, 3, -3] + [60, 20, -30, 5] + [-50, 40, 10, -5]
+# no two entries equal: a mixed-up context shows in the price
+MIXED = [20011 + 3001 * i + 17 * i * i for i in range(28)]
+LARGEST = [1048576] * 28
+PAST = costs(cbf_3_1=1048577)
+
+
+def only(k, value, others):
+    """Three settings, `value` for component k."""
+    return tuple(value if i == k else others for i in range(3))
+
+
+# ---- document 01's numbers
+
+def the_papers_numbers():
+    """P1 to P12."""
+    yield transform([1, 2, 3, 4])
+    yield from (transform([r] * 1024, 5, 5) for r in (1023, -1023))
+    yield from (transform(put(16, {0: r}), 2, 2) for r in (4, -4))
+    yield quantise([20, 7, 0, 0])
+    yield quantise([-24, 0, 0, 0])
+    yield quantise([16, 8, 0, 0], d=0.0)
+    yield quantise([10, 0, 0, 0], d=1 / 64)
+    yield from (quantise([c, 0, 0, 0]) for c in (9, 10))
+    yield from (quantise([c, 0, 0, 0], intra_slice=0) for c in (11, 12))
+    yield from (quantise(put(1024, {0: c}), 5, qp=3) for c in (29183, 29184))
+    yield from (quantise(put(1024, {0: c}), 5, d=8192.0) for c in (8191, 8192))
+    yield from (quantise([16384] * n + [0] * (1024 - n), 5, d=0.0) for n in (64, 65))
+
+
+# how the answers to these begin, by document 01's own words
+STATED = [
+    b"accepted : 80 -16 -32 0", b"accepted : 32736 0 0", b"accepted : -32736 0 0", b"accepted : 8 11 8 4 11 14 11 6 8 11 8 4 4 6 4 2",
+    b"accepted : -8 -10 -8 -4 -10 -14 -10 -6 -8 -10 -8 -4 -4 -6 -4 -2", b"accepted 1 22282240 : 1 0 0 0", b"accepted 1 22020096 : -1 0 0 0",
+    b"accepted 1 16777216 : 1 0 0 0", b"accepted 0 42991616 : 0 0 0 0", b"accepted 0 0 : 0 0 0 0", b"accepted 1 ", b"accepted 0 0 : 0 0 0 0",
+    b"accepted 1 ", b"accepted ", b"refused 7 0 :", b"accepted ", b"refused 8 0 :", b"accepted ", b"refused 9 0 :",
+]
+
+
+def run_only():
+    """Numbers that the paper asks to be run. QP 5 puts 9 a hair above half a step: lambda 0 keeps it, lambda 1 drops it. The f64 before the
+    largest below 1/2 is still lambda 0."""
+    for x in (0.0, math.nextafter(BELOW_HALF, 0), BELOW_HALF, 0.5 / 32768, 1 / 32768):
+        yield quantise([18, 9, 0, 0], qp=5, d=x)
+    for r in (1023, 1024, -1023, -1024):
+        yield transform([r, 0, 0, 0])
+        yield transform([0, 0, 0, r])
+    for at in range(28):
+        for e in (1048576, 1048577):
+            table = FLAT[:at] + [e] + FLAT[at + 1:]
+            yield quantise([20, 7, 0, 0], component=at % 3, costs=table)
+            yield subblock(PICTURE, run=at % 8, costs=table)
+    for k in range(3):
+        for qp in (63, 64):
+            yield quantise([30000, 20000, 0, -25000], component=k, qp=qp)
+            yield subblock([r * 10 for r in PICTURE], qp=only(k, qp, 4))
+
+
+def exact_halves():
+    """From side 8 on a row of the matrix begins 89 75. Two odd residuals, in column 0 of rows 0 and 1, for which that adds up to half a unit: with
+    every odd entry of column 0 the coefficient lies between two. Halves go upward, and nothing may be lost on the way."""
+    for lw, lh in ((5, 5), (4, 5), (5, 4), (1, 5), (5, 3), (3, 3), (4, 4)):
+        half = 1 << (6 + lw + lh)
+        pairs = [(a, (half - 89 * a) // 75) for a in range(-1023, 1024, 2) if (half - 89 * a) % 75 == 0]
+        for a, b in [pair for pair in pairs if abs(pair[1]) <= 1023][:2]:
+            for sign in (1, -1):
+                yield transform(put(1 << (lw + lh), {0: sign * a, 1 << lw: sign * b}), lw, lh)
+
+
+# ---- the limits of the nine refusals
+
+def sides():
+    """Sides whose low 32 bits, or whose sum, would pass are refused with the rest."""
+    for log2 in (0, 1, 2, 5, 6, 63, 64, 2 ** 32 + 1, 2 ** 32 + 2, 2 ** 63, 2 ** 64 - 1):
+        n = 1 << 2 * log2 if log2 <= 6 else 16
+        yield transform([7, -9] * 64, log2, 1)
+        yield transform([7, -9] * 64, 1, log2)
+        yield transform([7, -9] * 8, log2, log2)
+        yield quantise(put(max(n, 16), {0: 50, 3: -40, 5: 300}), log2, component=2)
+        yield subblock(put(n + n // 2 + 8, {0: 99, 1: -70, 5: 300}), log2)
+    yield transform([1, 2], 1, 0)
+    yield transform([1, 2, 3, 4], 2 ** 64 - 1, 3)
+    yield quantise([50])
+    yield subblock([90, -70, 50, -30, 60, -60], 1)
+
+
+def lambdas():
+    """0, -0.0, the two denormals next to it, 8192 and its neighbours, infinities, NaNs quiet and signalling of both signs; halves of a
+    step, where lambda is rounded up."""
+    patterns = [bits(d) for d in (0.0, -0.0, 5e-324, -5e-324, -1.0, -8192.0, 1.0, math.nextafter(8192, 0), 8192.0, math.nextafter(8192, 9000), 8193.0, 1e300, -1e300)]
+    patterns += ["7ff0000000000000", "fff0000000000000", "7fefffffffffffff", "ffefffffffffffff", "0010000000000000", "8010000000000000"]
+    patterns += [NAN, "fff8000000000000", "7ff0000000000001", "fff0000000000001", "7ff4000000000000", "7fffffffffffffff", "ffffffffffffffff", "7ffc0ffee0ddf00d"]
+    for k, pattern in enumerate(patterns):
+        yield quantise([20, 7, 0, 0], d=pattern, component=k % 3)
+        yield quantise([2, 1, 0, 0], d=pattern, component=2)
+        for j in range(3):
+            yield subblock(PICTURE, d=only(j, pattern, USUAL))
+    for steps in (0.25, 0.5, 0.75, 1.25, 1.5, 2.5, 3.5, math.nextafter(2.5, 0), math.nextafter(2.5, 3), 100.5, 101.5, 2 ** 27 + 0.5):
+        yield quantise([200, -70, 33, 9], d=steps / 32768, costs=MIXED)
+    for k in range(29):
+        for steps in (math.nextafter(2 ** k - 0.5, 0), 2 ** k - 0.5, math.nextafter(2 ** k, 0), 2.0 ** k):
+            yield quantise([200, -70, 33, 9], d=steps / 32768, costs=MIXED, component=k % 3)
+
+
+def qps():
+    """One past, and numbers whose low 8 bits would pass."""
+    for qp in (62, 63, 64, 68, 255, 256, 260, 2 ** 31, 2 ** 32 - 1):
+        for k in range(3):
+            yield quantise([30000, 20000, 0, -25000], component=k, qp=qp)
+            yield subblock([r * 10 for r in PICTURE], qp=only(k, qp, 30))
+
+
+def cost_entries():
+    """Entries whose low 32 bits would pass, and what a host's negative entries become. They are refused also when nothing runs, or nothing
+    that reads them."""
+    for at in range(28):
+        for k, e in enumerate((2 ** 32, 2 ** 32 + 32768, 2 ** 63, 2 ** 64 - 1)):
+            table = FLAT[:at] + [e] + FLAT[at + 1:]
+            yield quantise([20, 7, 0, 0], component=(at + k) % 3, costs=table) if k % 2 else subblock(PICTURE, run=(at + k) % 8, costs=table)
+        for run in (0, 1, 2, 4):
+            yield subblock(PICTURE, run=run, costs=FLAT[:at] + [1048577] + FLAT[at + 1:])
+        for k in range(3):
+            yield quantise([9, 0, 0, 0], component=k, costs=FLAT[:at] + [1048577] + FLAT[at + 1:])
+    yield quantise([20, 7, 0, 0], costs=[0] * 28)
+    yield quantise([20, 7, 0, 0], costs=LARGEST)
+    yield subblock(PICTURE, costs=[0] * 28)
+    yield subblock(PICTURE, costs=LARGEST)
+
+
+def lengths():
+    """Empty, one short, exact, longer: the surplus is neither tested nor changed, whatever is in it."""
+    wild = [-32768, 32767, 1024, -1024, 7, 0]
+    for lw, lh in ((1, 1), (2, 1), (1, 2), (2, 2), (3, 1), (1, 5), (5, 1)):
+        n = 1 << (lw + lh)
+        block = [(37 * i * i + 11 * i) % 401 - 200 for i in range(n)]
+        for buffer in ([], block[:1], block[:n - 1], block, block + [1024], block + [-32768], block + wild):
+            yield transform(buffer, lw, lh)
+    for log2 in (1, 2):
+        n = 1 << 2 * log2
+        block = [(53 * i * i + 29 * i) % 301 - 150 for i in range(n)]
+        for k, buffer in enumerate(([], block[:1], block[:n - 1], block, block + [-32768], block + wild)):
+            yield quantise(buffer, log2, component=k % 3)
+            yield quantise(buffer[:n] and [c // 100 for c in buffer[:n]] + buffer[n:], log2, component=k % 3)
+    for buffer in ([], PICTURE[:1], PICTURE[:16], PICTURE[:20], PICTURE[:23], PICTURE, PICTURE + [-32768], PICTURE + wild):
+        for run in (7, 3, 1, 2, 4, 0):
+            yield subblock(buffer, run=run)
+
+
+def samples():
+    """At the first and the last place of a component. No block with -32768 is skipped by the definition, but one whose magnitude wraps is."""
+    for r in (1023, 1024, -1023, -1024, 32767, -32767, -32768):
+        yield transform([r, 0, 0, 0, 1, 1, 1, 1], 2, 1)
+        yield transform([0, 0, 0, 0, 1, 1, 1, r], 2, 1)
+        for place in (0, 15, 16, 19, 20, 23):
+            yield subblock(PICTURE[:place] + [r] + PICTURE[place + 1:])
+            yield subblock(PICTURE[:place] + [r] + PICTURE[place + 1:], run=5)
+    for c in (-32768, -32767, 32767):
+        for k in range(3):
+            for qp in (0, 4, 63):
+                yield quantise([c, 0, 0, 0], component=k, qp=qp)
+                yield quantise([0, 0, 0, c], component=k, qp=qp, intra_slice=0)
+        yield quantise([0, 0, 0, 0, c], qp=63)
+
+
+def levels():
+    """m at 32767 and one past, with each sign, in a corner and at the end of the scan, at every QP that can reach it."""
+    for qp, c in ((0, 20479), (1, 23039), (2, 26111), (3, 29182)):
+        for more in range(3):
+            yield quantise(put(1024, {0: c + more}), 5, qp=qp, component=qp % 3)
+    yield quantise(put(1024, {1023: -29183}), 5, qp=3, component=1)
+    yield quantise(put(1024, {1023: -29184}), 5, qp=3, component=1)
+    yield quantise(put(1024, {5: 32767}), 5, qp=4, component=2)
+
+
+def prices():
+    """lambda × (M+1) at 2^41, at the nearest products past it, and where d's half step decides."""
+    for k, (step, c) in enumerate(((2 ** 28, 8190), (2 ** 28, 8191), (2 ** 28, -8192), (2 ** 28 - 1, 8192), (2 ** 27, 16383), (2 ** 27 + 1, 16383), (2 ** 27, 16384))):
+        yield quantise(put(1024, {33: c}), 5, component=k % 3, d=step / 32768)
+    for steps in (2 ** 26, 2 ** 26 + 0.5 - 2 ** -27, 2 ** 26 + 0.5, 2 ** 26 + 1):
+        yield quantise(put(1024, {0: 29183}), 5, qp=3, d=steps / 32768)
+    step, m = nearest_past(1 << 41)
+    yield quantise(put(1024, {0: m}), 5, d=step / 32768)
+    yield quantise(put(1024, {0: m}), 5, d=(step - 1) / 32768)
+    for k in range(3):
+        yield quantise(put(64, {9: 20480}), 3, component=k, qp=0, d=8192.0)
+        yield quantise(put(64, {9: 20475}), 3, component=k, qp=0, d=8192.0)
+
+
+def nearest_past(limit):
+    """Of all lambdas and magnitudes, the pair whose lambda × (m+1) is past the limit by the least."""
+    return min(((limit // n + 1, n - 1) for n in range(8193, 32768)), key=lambda pair: pair[0] * (pair[1] + 1))
+
+
+def widest_prices():
+    """lambda, magnitudes and entries as large as the limits let them be together; counts of 256 and of 1,024 levels."""
+    for d, qp, c in ((8192.0, 4, 8191), (2048.0, 3, 29183), (2048.0, 4, 32767), (4096.0, 10, 32767)):
+        for n in (1, 2, 16):
+            for table in (LARGEST, costs(1048576, run_0_0=0, level_0_0=0, level_0_1=0, level_1_0=0, level_1_1=0), costs(0, run_0_1=1048576, run_1_1=1048576)):
+                yield quantise([c, -c] * (n // 2) + [c] * (n % 2) + [0] * (1024 - n), 5, qp=qp, d=d, costs=table)
+    for n, c, log2 in ((256, 16384, 4), (1024, 4096, 5), (1024, 4095, 5)):
+        for d in (0.0, 1.0, 8192.0 if c < 8192 else 4096.0):
+            yield quantise([c if i % 3 else -c for i in range(n)], log2, d=d, costs=LARGEST, component=n % 3)
+    # more digits than an f64 has
+    yield quantise([(i * i * 37 + 11 * i) % 16001 - 8000 for i in range(256)], 4, qp=3, d=(2 ** 27 + 1) / 32768, costs=MIXED)
+
+
+def distortions():
+    """D at 2^60 exactly, and past it by one coefficient of 1; also where every place adds to it."""
+    yield quantise([16384] * 64 + [1] + [0] * 959, 5, d=0.0, component=1)
+    yield quantise([0] * 959 + [1] + [-16384] * 64, 5, d=0.0, component=2)
+    yield quantise([4096] * 1024, 5, d=0.0)
+    yield quantise([4096] * 1023 + [4097], 5, d=0.0)
+    yield quantise([16384] * 256, 4, d=0.0)
+    yield quantise([16384] * 255 + [16385], 4, d=0.0)
+    yield quantise([16384] * 255 + [-16383], 4, d=0.0)
+    yield quantise([32767] * 64, 3, d=0.0)
+
+
+# ---- the order of the refusals
+
+def order_of_the_quantiser():
+    """Each pair of neighbours at once, then every fault from each number on."""
+    high, half = put(1024, {0: 29184}), [16384] * 65 + [0] * 959
+    for k in (1, 2):
+        yield quantise([20, 7, 0, 0], 6, qp=64, component=k)
+        yield quantise([20, 7, 0, 0], 0, qp=64, component=k)
+        yield quantise([20, 7, 0, 0], qp=64, d=NAN, component=k)
+        yield quantise([20, 7, 0, 0], d=NAN, costs=PAST, component=k)
+        yield quantise([20, 7, 0], costs=PAST, component=k)
+        yield quantise([20, 7, -32768], component=k)
+        yield quantise(high[:1023] + [-32768], 5, qp=3, component=k)
+        yield quantise(high, 5, qp=3, d=8192.0, component=k)
+        yield quantise(half, 5, d=8192.0, component=k)
+    for settings in ({"log2": 6, "qp": 64}, {"qp": 64}, {}):
+        for d in (NAN, -1.0, 8193.0):
+            yield quantise([-32768, 7, 0], **{"log2": 1, "component": 1, "d": d, "costs": PAST, **settings})
+    yield quantise([-32768, 7, 0], costs=PAST, component=1)
+    yield quantise([-32768, 7, 0], component=1)
+    full = [29184] * 1024
+    yield quantise([-32768] + full[1:], 5, qp=3, d=8192.0, component=1)
+    yield quantise(full, 5, qp=3, d=8192.0, component=1)
+    yield quantise(full, 5, qp=3, d=0.0, component=1)
+    yield quantise(full, 5, qp=4, d=8192.0, component=1)
+    yield quantise(full, 5, qp=4, d=0.0, component=1)
+
+
+def order_of_the_transform():
+    """1 before 5 before 6."""
+    yield transform([1024, 2], 0, 1)
+    yield transform([1024, 2], 1, 6)
+    yield transform([1024, 2], 1, 1)
+    yield transform([1024, 2, 0, 0], 6, 6)
+    yield transform([], 0, 0)
+    yield transform([1, 2, 1024], 1, 1)
+
+
+def order_of_three_components():
+    """Each pair of neighbours at once: a number for Y, U, V, then the next number; 7 to 9 component by component."""
+    wild = [PICTURE[:16] + [1024] + PICTURE[17:], PICTURE[:20] + [-1024] + PICTURE[21:]]
+    for log2 in (1, 6):
+        yield subblock(PICTURE, log2, qp=(64, 4, 4))
+        yield subblock(PICTURE, log2, qp=(4, 4, 64))
+    for qp in ((64, 64, 64), (4, 64, 64), (4, 4, 64)):
+        for d in ((NAN, NAN, NAN), (NAN, USUAL, USUAL), (USUAL, NAN, NAN), (USUAL, USUAL, NAN)):
+            yield subblock(PICTURE, qp=qp, d=d)
+    for d in ((NAN, NAN, NAN), (USUAL, NAN, NAN), (USUAL, USUAL, -1.0), (8193.0, USUAL, NAN)):
+        yield subblock(PICTURE, d=d, costs=PAST)
+        yield subblock(PICTURE[:23], d=d)
+    yield subblock(PICTURE[:23], costs=PAST)
+    yield subblock([1024] + PICTURE[1:23])
+    yield subblock(PICTURE[:19] + [1024] + PICTURE[20:23])
+    yield subblock([1024] + PICTURE[1:], costs=PAST)
+    yield from (subblock(w) for w in wild)
+    yield subblock([1024] * 24)
+    yield subblock(PICTURE[:16] + [1024] * 8)
+    yield subblock(PICTURE[:16] + [1024] * 8, run=5)
+    yield subblock([1024] * 24, qp=(4, 64, 4), d=(NAN, USUAL, USUAL), run=6)
+
+
+def late_refusals_of_three_components():
+    """Luma 32 reaches 7; 8 needs a side of 8 or more. Y's coded levels must not be in the buffer when U or V is refused."""
+    bright, soft = [1023] * 64, [(i % 8) * 9 - 30 for i in range(64)]
+    y = [(i % 16) * 5 - (i // 16) * 3 for i in range(256)]
+    for parts, d in (
+        ((y, bright, soft), only(1, 8192.0, USUAL)), ((y, soft, bright), only(2, 8192.0, USUAL)), ((y, bright, bright), (USUAL, 8192.0, 8192.0)),
+        (([1023] * 256, bright, soft), (8192.0, 8192.0, USUAL)), (([-1023] * 256, soft, soft), only(0, 8192.0, USUAL)),
+        ((y, bright, soft[:63] + [1024]), only(1, 8192.0, USUAL)), (([1023] * 256, soft, soft[:63] + [1024]), only(0, 8192.0, USUAL)),
+    ):
+        for qp in ((0, 0, 0), (34, 1, 3)):
+            yield subblock(sum(parts, []), 4, qp=qp, d=d)
+    yield subblock(y + bright + soft, 4, run=5, qp=(0, 0, 0), d=only(1, 8192.0, USUAL))
+    yield subblock(y + bright + soft, 4, run=6, qp=(0, 0, 0), d=only(1, 8192.0, USUAL))
+    whole, dim = [1023] * 1024, [3, -3] * 128
+    yield subblock(whole + dim + dim, 5, qp=(3, 30, 30))
+    yield subblock(whole + dim + dim, 5, qp=(4, 30, 30))
+    yield subblock(whole + dim + dim, 5, qp=(3, 30, 30), d=(8192.0, USUAL, USUAL))
+    yield subblock(whole + [1023] * 512, 5, qp=(0, 0, 0), d=(USUAL, 8192.0, 8192.0))
+    yield subblock(whole + dim + dim[:255] + [1024], 5, qp=(0, 30, 30))
+    yield subblock(whole + dim + dim, 5, run=6, qp=(0, 30, 30))
+
+
+# ---- what runs
+
+def masks():
+    """Only bits 0, 1, 2 mean anything. What is not run keeps its residuals, whatever they are, and its settings are not read."""
+    for run in (0, 1, 2, 3, 4, 5, 6, 7, 8, 9, 10, 12, 15, 16, 128, 256, 2 ** 31, 2 ** 32 - 1, 2 ** 32 - 8, 2 ** 32 - 7, 2 ** 32 - 4):
+        yield subblock(PICTURE + [1024], run=run, qp=(4, 10, 22), d=(USUAL, 0.0, 1 / 64), costs=MIXED)
+    for run in range(8):
+        bad = [run >> k & 1 == 0 for k in range(3)]
+        yield subblock(PICTURE, run=run, qp=tuple(2 ** 32 - 1 if b else 4 for b in bad))
+        yield subblock(PICTURE, run=run, d=tuple(NAN if b else USUAL for b in bad))
+        yield subblock(PICTURE, run=run, d=tuple("fff0000000000000" if b else USUAL for b in bad), qp=tuple(64 if b else 4 for b in bad))
+        parts = [PICTURE[:16], PICTURE[16:20], PICTURE[20:]]
+        for value in (1024, -32768):
+            yield subblock(sum(([value] * len(p) if b else p for p, b in zip(parts, bad)), []), run=run)
+        yield subblock([-32768] * 24, run=run)
+        yield subblock(PICTURE, run=run, qp=(64, 64, 64))
+        yield subblock(PICTURE, run=run, d=(NAN, NAN, NAN))
+
+
+def nothing_run():
+    """1, 4 and 5 are tested all the same, in their order."""
+    nothing = {"run": 8, "qp": (64, 64, 64), "d": (NAN, NAN, NAN)}
+    yield subblock([-32768] * 24, **nothing)
+    yield subblock([-32768] * 24, costs=PAST, **nothing)
+    yield subblock([-32768] * 23, costs=PAST, **nothing)
+    yield subblock([-32768] * 23, **nothing)
+    yield subblock([-32768] * 23, 6, costs=PAST, **nothing)
+    yield subblock([-32768] * 24, 1, **nothing)
+    yield subblock([], **nothing)
+
+
+def flags():
+    """A flag is yes when it is not 0. 11 is skipped in an inter slice only; cbf_all serves luma that is not intra-coded."""
+    for a in (0, 1, 2, 255, 256, 2 ** 31, 2 ** 32 - 1):
+        for b in (0, 1, 2, 2 ** 32 - 1):
+            yield quantise([11, 0, 0, 0], intra_slice=a, intra_coded=b, costs=MIXED)
+            yield subblock([9, 2, 0, 0] * 6, qp=(10, 16, 16), intra_slice=a, intra_coded=b, costs=MIXED)
+
+
+def thresholds():
+    """The skip on both sides of its threshold, at QPs where a coefficient meets it exactly (34: 311 and 359) and where none does; one place
+    that reaches it is enough."""
+    for slice_ in (0, 1):
+        at = 311 if slice_ else 359
+        for c in (at - 1, at, at + 1, -at, 1 - at):
+            for place in (0, 1, 2, 3):
+                yield quantise(put(4, {place: c}), qp=34, intra_slice=slice_, intra_coded=1 - slice_, component=place % 3)
+    for log2, qp, first in ((1, 0, 5), (2, 15, 17), (3, 29, 50), (1, 51, 2200), (2, 63, 4000)):
+        for c in range(first, first * 2, max(1, first // 6)):
+            yield quantise(put(1 << 2 * log2, {1: -c, 2: c - 1}), log2, qp=qp, d=0.0, intra_slice=c % 2, intra_coded=c // 2 % 2)
+
+
+# ---- the quantiser's choices
+
+def contexts():
+    """No two cost entries equal; places first, after a zero and after a nonzero; magnitudes 1, 2 and above."""
+    blocks = [[200, 0, 0, 0], [0, 0, 0, 200], [200, 100, 60, 33], [0, 200, -17, 170], [-20, 0, 20, 0], [33, -33, 0, 33], [50, 49, 48, 47]]
+    for coded in (0, 1):
+        for k in range(3):
+            for block in blocks:
+                yield quantise(block, component=k, intra_coded=coded, costs=MIXED)
+                yield quantise(block, component=k, intra_coded=coded, costs=MIXED[::-1], d=1 / 8192)
+            yield quantise(put(16, {0: 60, 1: -20, 3: 9, 4: 33, 8: -70, 9: 12, 15: 500}), 2, component=k, intra_coded=coded, costs=MIXED)
+    for block in blocks:
+        yield quantise(block, costs=costs(0, run_1_1=900000, run_0_1=400000, level_0_1=100, level_1_1=70000))
+        yield quantise(block, component=2, costs=costs(1000, run_3_0=900000, run_2_0=400000, last_1_0=5000, cbf_3_0=1048576))
+
+
+def scans():
+    """One coefficient at each place in turn and then a few together: the price tells how many zeros the scan has before it."""
+    for log2, places in ((1, range(4)), (2, range(16)), (3, (0, 1, 8, 16, 9, 2, 3, 7, 56, 62, 63)), (4, (1, 16, 240, 255)), (5, (1, 32, 992, 31))):
+        for p in places:
+            yield quantise(put(1 << 2 * log2, {p: -900}), log2, qp=16, costs=MIXED, component=p % 3)
+    for log2 in (2, 3, 4, 5):
+        # a pattern of zeros and nonzeros without a period
+        yield quantise([900 - 7 * i % 500 if i * i * (i + 7) % 11 < 5 else 0 for i in range(1 << 2 * log2)], log2, qp=16, costs=MIXED)
+    yield quantise(list(range(160, 0, -10)), 2, d=1 / 64, costs=MIXED)
+    yield quantise(list(range(-5, 11)), 2, qp=0, d=0.0, costs=MIXED)
+
+
+def ties():
+    """QP 4 at side 2 has a step of 16 and exact errors. With d = 0 a coefficient of 8 costs the same as 0 and 1, one of 24 as 1 and 2."""
+    for block in ([16, 8, 0, 0], [16, -8, 8, 8], [24, 0, 0, 0], [-24, 24, 8, 40], [16, 40, 56, 8], [8, 8, 8, 10]):
+        for k in range(3):
+            yield quantise(block, d=0.0, component=k)
+            yield quantise(block, d=0.0, costs=[0] * 28, component=k)
+            yield quantise(block, d=USUAL, costs=[0] * 28, component=k)
+    # 9 costs 2^23 more as 0 than as 1; lambda is 32, so that 2^18 of rate and flag evens it out and the earlier cut wins
+    even = costs(32768, level_0_0=65536, last_0_0=131072)
+    yield quantise([20, 9, 0, 0], costs=even)
+    yield quantise([20, 9, 0, 0], costs=costs(32768, level_0_0=65536, last_0_0=131071))
+    yield quantise([20, 9, 0, 0], costs=costs(32768, level_0_0=65536, last_0_0=131073))
+    yield quantise([20, 9, 20, 0], costs=even)
+    # 12 costs 2^25 more as 0 than as 1, 2^20 of rate: the empty block at equal price, and one off on either side
+    for more in (-1, 0, 1):
+        yield quantise([12, 0, 0, 0], costs=costs(0, run_0_0=500000, level_0_0=500000, last_0_1=15808 + more))
+        yield quantise([12, 0, 0, 0], costs=costs(0, run_0_0=500000, level_0_0=400000, cbf_1_1=115808 + more))
+        yield quantise([12, 0, 0, 0], costs=costs(0, run_0_0=1000000, cbf_1_0=1000, cbf_1_1=16808 + more))
+    # 12 costs the same as 0 and as 1 in the walk
+    for more in (-1, 0, 1):
+        yield quantise([40, 12, 0, 0], costs=costs(0, run_0_0=500000, level_0_0=520000, run_0_1=4192 + more))
+    # 24 costs as much as 2 and as 1 when their rates are equal
+    yield quantise([24, 0, 0, 0], costs=costs(32768, level_0_0=65536))
+    yield quantise([24, 24, 0, 0], costs=costs(32768, level_0_0=65537))
+    yield quantise([24, 24, 0, 0], costs=costs(32768, level_0_0=65535))
+
+
+def cuts():
+    """The walk keeps what a cut then drops: the last flag, or coding at all, is dear. A zero level can't be the end of a block, be it ever
+    so cheap to end there."""
+    for block in ([20, 9, 0, 12], [20, 0, 0, 12], [200, 12, 12, 12], [12, 12, 12, 200], [0, 0, 0, 12]):
+        for table in (costs(100, last_0_0=900000), costs(100, last_0_1=900000), costs(100, cbf_1_1=1048576), costs(100, cbf_1_0=1048576),
+                      costs(100, cbf_1_0=1048576, run_0_1=0, run_1_1=0, last_0_1=0, cbf_1_1=0, run_1_0=500000, level_0_0=600000),
+                      costs(0, cbf_1_0=1048576, run_0_1=0, run_1_1=1048576, run_1_0=1048576, run_0_0=1048576)):
+            yield quantise(block, costs=table)
+            yield quantise(block, costs=table, d=1 / 256)
+            yield quantise(block[::-1], costs=table)
+
+
+def lowered():
+    """Magnitudes just above and below a half step, dear ones: m, m-1 and 0 each win somewhere."""
+    for c in (24, 25, 28, 31, 32, 39, 40, 41, 56, 57, 100, -24, -41):
+        for d in (USUAL, 1 / 128, 1 / 16):
+            yield quantise([c, 0, 0, 0], d=d, costs=costs(32768, level_1_1=400000, level_1_0=100000))
+            yield quantise([c, c, 3 - c, 0], d=d, component=1, costs=costs(32768, level_3_1=300000, level_2_1=200000))
+
+
+def negative_errors():
+    """QPs whose error scale is no power of two: a magnitude above its coefficient leaves an error below 0 with a fraction, which falls."""
+    for qp in (0, 1, 2, 3, 5, 11, 27):
+        for log2 in (1, 2):
+            for c in (7, 9, 13, 15, 17, 23, 27, 31):
+                yield quantise(put(1 << 2 * log2, {0: c * 3, 1: -c * 5, 2: c * 2 + 1}), log2, qp=qp, d=0.0)
+
+
+def wide_rates():
+    """Rates past 31 bits. The first magnitude to pass is 2047 with every entry at its largest, 2050 with level[j+1][1] alone."""
+    for d in (0.0, 1 / 8192, USUAL, 1.0):
+        for c in (20456, 20466, 20476, 20496, 20506, 32767):
+            yield quantise([c, 0, 0, 0], qp=0, d=d, costs=LARGEST)
+        yield quantise([-20506, 20496, 0, 0], qp=0, d=d, costs=costs(0, level_1_1=1048576))
+        yield quantise([-20506, 20496, 0, 0], qp=0, d=d, component=2, costs=costs(0, level_3_1=1048576))
+        yield subblock([1023] * 24, qp=(0, 0, 0), d=(d, d, d), costs=LARGEST)
+    yield quantise(put(1024, {0: 29183, 40: -29183}), 5, qp=3, d=0.5, costs=LARGEST)
+
+
+# ---- malformed lines
+
+GOOD = {
+    b"transform": transform([1, 2, 3, 4]),
+    b"quantise": quantise([20, 7, 0, 0]),
+    b"subblock": subblock(PICTURE),
+}
+# what the words of a request are, after its verb
+FIELDS = {
+    b"transform": ["log2"] * 2 + ["n"] + ["sample"] * 4,
+    b"quantise": ["component", "log2", "u32", "lambda", "u32", "u32"] + ["cost"] * 28 + ["n"] + ["sample"] * 4,
+    b"subblock": ["log2", "u32"] + ["u32", "lambda"] * 3 + ["u32"] * 2 + ["cost"] * 28 + ["n"] + ["sample"] * 24,
+}
+# past each type, first one whose low bits would pass
+PAST_TYPE = {
+    "log2": [2 ** 64 + 2, 2 ** 64, 10 ** 20, 10 ** 30],
+    "u32": [2 ** 32 + 4, 2 ** 32, 2 ** 64 + 4],
+    "cost": [2 ** 64 + 32768, 2 ** 64, 10 ** 21],
+    "sample": [65536 + 20, 32768, -32769, 20 - 65536, 2 ** 32 + 7, 2 ** 64 + 7],
+    "component": [3, 4, 256, 2 ** 32, 2 ** 64 + 1],
+    "n": [8193, 2 ** 32 + 4, 2 ** 64 + 4],
+}
+
+
+def replaced(line, at, word):
+    words = line.split(b" ")
+    return b" ".join(words[:at] + [word] + words[at + 1:])
+
+
+def chosen_fields(verb):
+    """Every field's place among the words, but of costs and samples only the first, a middle one and the last."""
+    kinds = FIELDS[verb]
+    for i, kind in enumerate(kinds):
+        same = [j for j, other in enumerate(kinds) if other == kind]
+        if kind not in ("cost", "sample") or i in (same[0], same[len(same) // 2], same[-1]):
+            yield i + 1, kind
+
+
+def spaces():
+    """Exactly one space between words and none at the ends; a tab, a carriage return and the like are no spaces."""
+    for line in GOOD.values():
+        verb, rest = line.split(b" ", 1)
+        yield from (b" " + line, line + b" ", line + b"  ", verb + b"  " + rest, rest, verb + b"\t" + rest, line + b"\r", line + b"\t", b"\t" + line)
+        yield from (line.replace(b" ", b"  "), line.replace(b" ", b"\t"), line.replace(b" ", b""), line.replace(b" ", b","), line.replace(b" ", b"\xc2\xa0"))
+        yield from (line[:-2] + b"  " + line[-1:], line[:-2] + b"\v" + line[-1:], line[:-2] + b"\r" + line[-1:])
+
+
+def verbs():
+    """Unknown, alone, in upper case, cut or longer; an empty line, a space, bytes that are no text."""
+    yield from (b"", b" ", b"\r", b"\t", b"\0", b"\xff", b"-", b"0", b":", b"accepted :", b"malformed", b"# transform 1 1 4 1 2 3 4", b"help", b"quit")
+    for verb, line in GOOD.items():
+        rest = line.split(b" ", 1)[1]
+        yield from (verb, verb + b" ", verb + b":", verb + b"\0", verb.upper(), verb.title())
+        for other in (verb.upper(), verb.title(), verb[:-1], verb + b"s", b"\xef\xbb\xbf" + verb, b"\0" + verb, verb[:-1] + bytes([verb[-1] | 128])):
+            yield other + b" " + rest
+    for verb in GOOD:
+        for other in GOOD:
+            if verb != other:
+                yield verb + b" " + GOOD[other].split(b" ", 1)[1]
+
+
+def numbers_in_every_field():
+    """No sign but a minus before a digit from 1 to 9, no leading zero, no point, no other base; and nothing past the field's type."""
+    for verb, line in GOOD.items():
+        words = line.split(b" ")
+        for at, kind in chosen_fields(verb):
+            w = words[at]
+            if kind == "lambda":
+                continue
+            bad = [b"+" + w, b"-0", b"00", b"0" + w, b"-", b"--1", b"-01", w + b".0", w + b".", b"0x" + w, w + b"e0", b"a", w + b"a", b""]
+            bad += [b"\xd9\xa1", w + b"\0", w + b"\xff", b"1-", b"1 ", b"'1'", b"1_0", b":", b"/"]
+            bad += [b"%d" % n for n in PAST_TYPE[kind]] + ([b"-1"] if kind != "sample" else [])
+            yield from (replaced(line, at, b) for b in bad)
+    yield replaced(GOOD[b"transform"], 1, b"1" * 60000)
+    yield replaced(GOOD[b"transform"], 3, b"0" * 60000 + b"4")
+    yield replaced(GOOD[b"transform"], 7, b"-" + b"9" * 300)
+
+
+def lambdas_in_hex():
+    """16 lower-case digits, no more and no less."""
+    for verb in (b"quantise", b"subblock"):
+        for at, kind in chosen_fields(verb):
+            if kind == "lambda":
+                for w in (b"3f5000000000000", b"3f500000000000000", b"3F50000000000000", b"3f5000000000000A", b"0x3f500000000000", b"0x3f50000000000000",
+                          b"3f5000000000000g", b"3f5000000000000`", b"3f5000000000000:", b"3f5000000000000/", b"3f5000000000000@", b"-3f5000000000000",
+                          b"+3f5000000000000", b"0.0009765625", b"nan", b"0", b"", b"1", b"3f50 000000000000", b"3f5000000000000\0", b"3f5000000000000\xb0",
+                          b"abcdefabcdefabcd", b"ABCDEFABCDEFABCD", b"0123456789abcdef", b"7FF8000000000000", b"fFf8000000000000"):
+                    yield replaced(GOOD[verb], at, w)
+
+
+def missing_and_more():
+    """Each field left out, or once more; N one more or less than the samples; a line that ends after each of its words."""
+    for verb, line in GOOD.items():
+        words = line.split(b" ")
+        n = len(FIELDS[verb]) - FIELDS[verb][::-1].index("n")
+        for at in range(1, n + 2):
+            yield b" ".join(words[:at] + words[at + 1:])
+            yield b" ".join(words[:at] + words[at:at + 1] + words[at:])
+            yield b" ".join(words[:at])
+        count = int(words[n])
+        for other in (0, 1, count - 1, count + 1, count + 2, 8192):
+            yield replaced(line, n, b"%d" % other)
+        yield from (line + b" 0", line + b" x", b" ".join(words[:-1]))
+        yield b" ".join(words[:n] + [b"0"])
+        yield line + b" " + line
+
+
+def most_samples():
+    """N of 8192 is read, of 8193 not, though the samples be there."""
+    for n in (8191, 8192, 8193):
+        yield transform([1, -2, 3, -4] + [5] * (n - 4))
+        yield quantise([20, 7, 0, 0] + [0] * (n - 4))
+        yield subblock(PICTURE + [1] * (n - 24))
+    yield quantise([20, 7, 0, 0] + [-32768] * 8188)
+
+
+def long_lines():
+    """The longest request that can be read has 58,083 bytes. A longer line is passed over to its end, and gets one answer: what stands in it
+    behind the first 65,535 bytes, or any other number, is no request."""
+    most = 2 ** 32 - 1
+    yield subblock([-32768] * 8192, 2 ** 64 - 1, most, (most,) * 3, (NAN,) * 3, most, most, [2 ** 64 - 1] * 28)
+    good = GOOD[b"transform"]
+    for n in (4096, 16384, 32768, 65535, 65536, 131070):
+        yield b"x" * n + good
+    yield b"x" * 65534 + b" " + good
+    for n in (65535, 65536):
+        yield good + b" " * (n - len(good))
+        yield replaced(good, 3, b"0" * (n - len(good)) + b"4")
+    yield b"transform " * 20000
+    yield good
+
+
+def end_of_file():
+    """The last line; the file has no newline behind it."""
+    yield quantise([200, 100, 60, 33, -32768], component=1, costs=MIXED)
+
+
+SECTIONS = [
+    the_papers_numbers, run_only, exact_halves, sides, lambdas, qps, cost_entries, lengths, samples, levels, prices, widest_prices, distortions, order_of_the_quantiser,
+    order_of_the_transform, order_of_three_components, late_refusals_of_three_components, masks, nothing_run, flags, thresholds, contexts, scans, ties,
+    cuts, lowered, negative_errors, wide_rates, spaces, verbs, numbers_in_every_field, lambdas_in_hex, missing_and_more, most_samples, long_lines,
+    end_of_file,
+]
+
+
+def requests():
+    """(section's name, line) of every request, in the file's order."""
+    return [(section.__name__.replace("_", " "), line) for section in SECTIONS for line in section()]

@@ -1,0 +1,55 @@
+"""Request lines of the protocol, as bytes without a newline. What is not said is as in the paper's P5: QP 4, luma, intra-coded, intra slice,
+d 1/1024, every cost entry 32768."""
+import math, struct
+
+FLAT = [32768] * 28
+USUAL = 1 / 1024
+BELOW_HALF = math.nextafter(0.5, 0) / 32768
+
+
+def bits(d):
+    """LAMBDA: of a number its 16 digits; a text stands as it is."""
+    return d if isinstance(d, str) else struct.pack(">d", d).hex()
+
+
+def numbers(values, n=None):
+    return " ".join(map(str, [len(values) if n is None else n, *values]))
+
+
+def transform(residuals, lw=1, lh=1, n=None):
+    return f"transform {lw} {lh} {numbers(residuals, n)}".encode()
+
+
+def quantise(coefficients, log2=1, component=0, qp=4, d=USUAL, intra_slice=1, intra_coded=1, costs=FLAT, n=None):
+    settings = f"{component} {log2} {qp} {bits(d)} {intra_slice} {intra_coded}"
+    return f"quantise {settings} {' '.join(map(str, costs))} {numbers(coefficients, n)}".encode()
+
+
+def subblock(residuals, log2=2, run=7, qp=(4, 4, 4), d=(USUAL,) * 3, intra_slice=1, intra_coded=1, costs=FLAT, n=None):
+    settings = " ".join(f"{a} {bits(b)}" for a, b in zip(qp, d))
+    return f"subblock {log2} {run} {settings} {intra_slice} {intra_coded} {' '.join(map(str, costs))} {numbers(residuals, n)}".encode()
+
+
+# where each table starts among the 28 entries
+RUN, LEVEL, LAST, CBF = 0, 8, 16, 20
+
+
+def entry(table, row, column):
+    return table + 2 * row + column
+
+
+def costs(base=32768, **entries):
+    """All `base` but for entries as run_0_1=5: table, row, column."""
+    whole = [base] * 28
+    for name, value in entries.items():
+        table, row, column = name.split("_")
+        whole[entry({"run": RUN, "level": LEVEL, "last": LAST, "cbf": CBF}[table], int(row), int(column))] = value
+    return whole
+
+
+def put(n, values):
+    """n zeros but for the values at their places."""
+    block = [0] * n
+    for place, value in values.items():
+        block[place] = value
+    return block

@@ -1,0 +1,550 @@
+"""wrong_ports.py [--all] [WORDS ..]: which plausible wrong ports the recorded answers catch.
+
+A wrong port is tools/paper.py with one rule changed. Each answers the stored requests of `tq` and `replay`; printed are how many answers it
+gets wrong in each file (counted to 10, with --all to the end) and the request that catches it first. With WORDS, only ports whose names have one of
+them. Status 1 if a wrong port is caught by neither file, or if the paper itself, or a port that can't differ, gets an answer wrong.
+"""
+import copy, fractions, itertools, math, multiprocessing, os, struct, sys
+from paper import Block, Costs, Malformed, Paper, Refused, U, V, Words, Y
+from vectors import by_hand
+
+HERE = os.path.dirname(os.path.dirname(os.path.abspath(__file__)))
+PORTS, EQUAL = [], []
+
+
+def port(name, **rules):
+    """The paper but for these methods."""
+    PORTS.append(type(name, (Paper,), rules))
+
+
+def reader(name, **rules):
+    """The paper with a reader of lines that differs in these methods."""
+    PORTS.append(type(name, (Paper,), {"Words": type("Words", (Words,), rules)}))
+
+
+def equal(name, why, **rules):
+    """No wrong port: no input tells it from the paper, for the reason given."""
+    EQUAL.append(type(name, (Paper,), {**rules, "why": why}))
+
+
+def signed(like, magnitude):
+    return -magnitude if like < 0 else magnitude
+
+
+# ---- transform
+def staged(paper, value, lw):
+    return ((value + (1 << lw)) >> (lw + 1)) << (lw + 1)
+
+
+def by_columns(paper, residuals, lw, lh):
+    out, w = Paper.coefficients(paper, residuals, lw, lh), 1 << lw
+    return [c for u in range(w) for c in out[u::w]]
+
+
+def wrapped(value, bits=32):
+    return (value + (1 << (bits - 1))) % (1 << bits) - (1 << (bits - 1))
+
+
+def halved(paper, residuals, lw, lh):
+    """32×32 in halves, each product floored."""
+    if (lw, lh) != (5, 5):
+        return Paper.coefficients(paper, residuals, lw, lh)
+    rows = Paper.matrix(paper, 5)
+    first = [[sum(t * r for t, r in zip(row, residuals[y:y + 32])) for y in range(0, 1024, 32)] for row in rows]
+    return [paper.shift_right(sum(t * v >> 1 for t, v in zip(row, column)), 16) for row in rows for column in first]
+
+
+def off_by_one(log2, k, n):
+    """One entry of one matrix."""
+    def matrix(paper, side):
+        rows = [list(row) for row in Paper.matrix(paper, side)]
+        if side == log2:
+            rows[k][n] += 1
+        return rows
+    return matrix
+
+
+port("halves rounded away from zero", shift_right=lambda s, v, n: signed(v, (abs(v) + (1 << (n - 1))) >> n))
+port("halves rounded toward zero", shift_right=lambda s, v, n: signed(v, (abs(v) + (1 << (n - 1)) - 1) >> n))
+port("coefficients floored, not rounded", shift_right=lambda s, v, n: v >> n)
+port("coefficients cut toward zero", shift_right=lambda s, v, n: signed(v, abs(v) >> n))
+port("rounded after stage one, floored at the end", first_stage=staged, shift_right=lambda s, v, n: v >> n)
+port("rounded after both stages", first_stage=staged)
+port("width and height taken for each other", coefficients=lambda s, r, lw, lh: Paper.coefficients(s, r, lh, lw))
+port("coefficients stored by columns", coefficients=by_columns)
+port("last entry of the matrix's column one more", COLUMN=Paper.COLUMN[:31] + [5])
+port("sums of the transform in 32 bits", shift_right=lambda s, v, n: Paper.shift_right(s, wrapped(v), n))
+port("stage one in 16 bits", first_stage=lambda s, v, lw: wrapped(v, 16))
+port("32×32 in halves, each floored", coefficients=halved)
+port("an entry of T_32 one more", matrix=off_by_one(5, 17, 20))
+port("an entry of T_16 one more", matrix=off_by_one(4, 15, 15))
+port("an entry of T_8 one more", matrix=off_by_one(3, 7, 3))
+port("a at or above 32 without its minus", entry=lambda s, k, n: abs(Paper.entry(s, k, n)))
+
+# ---- scales, lambda, error
+port("m rounded down", m=lambda s, x, b: x >> b)
+port("m's halves rounded down", m=lambda s, x, b: (x + (1 << (b - 1)) - 1) >> b)
+port("two scales exchanged", SCALES=[26214, 23302, 20560, 18396, 14564, 16384])
+port("QP / 6 rounded to nearest", b=lambda s, l, qp: 19 - l + (qp + 3) // 6)
+port("error scale rounded to nearest", error_scale=lambda s, l, qp: ((2 << (28 + l)) // s.q(qp) + 1) // 2)
+port("error scale one more", error_scale=lambda s, l, qp: Paper.error_scale(s, l, qp) + 1)
+port("fraction of a negative error dropped toward zero", error=lambda s, x, e: signed(x, (abs(x) * e) >> 20))
+port("error rounded to nearest", error=lambda s, x, e: (x * e + (1 << 19)) >> 20)
+port("lambda without the half", lambda_of=lambda s, d: math.floor(d * 32768.0))
+port("lambda rounded to even", lambda_of=lambda s, d: round(d * 32768.0))
+port("lambda's sum not rounded", lambda_of=lambda s, d: math.floor(fractions.Fraction(d) * 32768 + fractions.Fraction(1, 2)))
+port("lambda by way of an f32", lambda_of=lambda s, d: math.floor(struct.unpack("f", struct.pack("f", d * 32768.0 + 0.5))[0]))
+port("lambda at most 2^28 - 1", lambda_of=lambda s, d: min(Paper.lambda_of(s, d), 2 ** 28 - 1))
+port("a NaN lambda taken as 0", lambda_fault=lambda s, d: d < 0 or d > 8192, lambda_of=lambda s, d: 0 if d != d else Paper.lambda_of(s, d))
+port("a lambda below 0 taken as 0", lambda_fault=lambda s, d: not d <= 8192, lambda_of=lambda s, d: Paper.lambda_of(s, max(d, 0.0)))
+port("a denormal below 0 taken as 0", lambda_fault=lambda s, d: not -1e-300 <= d <= 8192)
+port("-0.0 refused", lambda_fault=lambda s, d: not 0 <= d <= 8192 or math.copysign(1, d) < 0)
+port("a lambda above 8192 taken as 8192", lambda_fault=lambda s, d: not 0 <= d, lambda_of=lambda s, d: Paper.lambda_of(s, min(d, 8192.0)))
+
+# ---- skip
+port("skip tested with m", is_skipped=lambda s, block, i, c: not any(block.rounded))
+port("skip's 201 and 153 exchanged", threshold=lambda s, i, b: Paper.threshold(s, not i, b))
+port("intra slice taken from intra-coded", is_skipped=lambda s, block, i, c: Paper.is_skipped(s, block, c, c))
+port("201 in every slice", threshold=lambda s, i, b: Paper.threshold(s, True, b))
+port("a coefficient at the threshold skipped", threshold=lambda s, i, b: Paper.threshold(s, i, b) + 1)
+port("nothing skipped", is_skipped=lambda s, *of: False)
+port("skip asks the first coefficient alone", is_skipped=lambda s, block, i, c: block.scaled[0] < s.threshold(i, block.b))
+port("skip leaves the last coefficient out", is_skipped=lambda s, block, i, c: all(x < s.threshold(i, block.b) for x in block.scaled[:-1]))
+port("skip asks 64 coefficients at most", is_skipped=lambda s, block, i, c: all(abs(x) * s.q(block.qp) < s.threshold(i, block.b) for x in block.coefficients[:64]))
+port("skip asks for one coefficient below", is_skipped=lambda s, block, i, c: any(x < s.threshold(i, block.b) for x in block.scaled))
+port("a skipped block's price is D", skipped_price=lambda s, block: block.uncoded[0])
+port("a skipped block's price is the empty block's", skipped_price=lambda s, block: block.empty_price())
+port("a skipped block not cleared", cleared=lambda s, block: list(block.coefficients))
+
+# ---- scan
+def two_exchanged(places, at):
+    return places if at is None else places[:at] + [places[at + 1], places[at]] + places[at + 2:]
+
+
+port("odd and even diagonals exchanged", diagonal=lambda s, d, side: Paper.diagonal(s, d, side)[::-1])
+port("every diagonal from small x to large", diagonal=lambda s, d, side: sorted(Paper.diagonal(s, d, side)))
+port("every diagonal from large x to small", diagonal=lambda s, d, side: sorted(Paper.diagonal(s, d, side))[::-1])
+port("scan by rows", scan=lambda s, side: list(range(side * side)))
+port("scan by columns", scan=lambda s, side: [y * side + x for x in range(side) for y in range(side)])
+port("side 2 turned", scan=lambda s, side: [0, 2, 1, 3] if side == 2 else Paper.scan(s, side))
+port("two places of side 32 exchanged", scan=lambda s, side: two_exchanged(Paper.scan(s, side), 500 if side == 32 else None))
+port("the last two places of side 16 exchanged", scan=lambda s, side: two_exchanged(Paper.scan(s, side), 254 if side == 16 else None))
+port("the last two places of side 32 exchanged", scan=lambda s, side: two_exchanged(Paper.scan(s, side), 1022 if side == 32 else None))
+
+# ---- contexts and rates
+def exchanged(entries, start, end):
+    return [entries[i ^ 1] if start <= i < end else e for i, e in enumerate(entries)]
+
+
+def rate_with(more):
+    """The paper's rate, but for magnitudes from 2 on."""
+    def rate(paper, a, component, before, costs):
+        if a < 2:
+            return Paper.rate(paper, a, component, before, costs)
+        return paper.SIGN + costs.run[paper.run_context(component, before)][0] + more(a, costs.level, paper.level_row(component))
+    return rate
+
+
+port("the first place counted as after a zero", start=lambda s: 0)
+port("luma's run rows for chroma", run_row=lambda s, k: 0)
+port("chroma's run rows for luma", run_row=lambda s, k: 2)
+port("run row 1 for chroma", run_row=lambda s, k: min(k, 1))
+port("luma's level rows for chroma", level_row=lambda s, k: 0)
+port("level row 1 for chroma", level_row=lambda s, k: min(k, 1))
+port("luma's last row for chroma", last_row=lambda s, k: 0)
+port("cbf_cb for V", cbf_row=lambda s, k, c: Paper.cbf_row(s, min(k, U), c))
+port("cbf_cr for U", cbf_row=lambda s, k, c: Paper.cbf_row(s, V if k else Y, c))
+port("cbf_cb and cbf_cr exchanged", cbf_row=lambda s, k, c: Paper.cbf_row(s, (Y, V, U)[k], c))
+port("cbf_all for every luma block", cbf_row=lambda s, k, c: Paper.cbf_row(s, k, False))
+port("cbf_luma for every luma block", cbf_row=lambda s, k, c: Paper.cbf_row(s, k, True))
+port("cbf_all and cbf_luma exchanged", cbf_row=lambda s, k, c: Paper.cbf_row(s, k, not c))
+port("cbf_all for chroma that is not intra-coded", cbf_row=lambda s, k, c: Paper.cbf_row(s, k, c) if c else 0)
+port("run context turned", run_context=lambda s, k, before: s.run_row(k) + (before != 0))
+port("run context one more after a level above 1 too", run_context=lambda s, k, before: s.run_row(k) + (before != 1))
+port("run context never after a zero", run_context=lambda s, k, before: s.run_row(k))
+port("level context j for j+1", rate=rate_with(lambda a, level, j: level[j][1] + (a - 2) * level[j][1] + level[j][0]))
+port("a-1 for a-2", rate=rate_with(lambda a, level, j: level[j][1] + (a - 1) * level[j + 1][1] + level[j + 1][0]))
+port("level[j][1] left out", rate=rate_with(lambda a, level, j: (a - 2) * level[j + 1][1] + level[j + 1][0]))
+port("level[j+1][0] left out", rate=rate_with(lambda a, level, j: level[j][1] + (a - 2) * level[j + 1][1]))
+port("a level of 2 without level[j+1][0]", rate=rate_with(lambda a, level, j: level[j][1] + (a - 2) * level[j + 1][1] + (a > 2) * level[j + 1][0]))
+port("the sign's 32768 left out", SIGN=0)
+port("a zero pays for a sign", rate=lambda s, a, *of: Paper.rate(s, a, *of) + (s.SIGN if a == 0 else 0))
+port("run's two columns exchanged", rate=lambda s, a, k, before, costs: Paper.rate(s, a, k, before, Costs(exchanged(costs.entries, 0, 8))))
+port("level's two columns exchanged", rate=lambda s, a, k, before, costs: Paper.rate(s, a, k, before, Costs(exchanged(costs.entries, 8, 16))))
+port("the rate wraps to 32 bits", rate=lambda s, *of: wrapped(Paper.rate(s, *of)))
+port("the rate stops at 32 bits", rate=lambda s, *of: min(Paper.rate(s, *of), 2 ** 31 - 1))
+
+
+def wrapped_choice(paper, block):
+    """Chosen by rates of 32 bits; the price is then worked out anew."""
+    other = type("Wrapping", (type(paper),), {"rate": lambda s, *of: wrapped(Paper.rate(s, *of))})()
+    block.paper = other
+    levels = Paper.chosen(other, block)
+    block.paper = paper
+    return levels
+
+
+port("levels chosen by rates of 32 bits", chosen=wrapped_choice)
+
+# ---- flags
+port("last[0] charged for the last too", last_flag=lambda s, last: last[0] + last[1])
+port("last[1] left out", last_flag=lambda s, last: 0)
+port("last[0] left out", more_flag=lambda s, last: 0)
+port("last's two columns exchanged", last_flag=lambda s, last: last[0], more_flag=lambda s, last: last[1])
+port("cbf[1] left out", coded_flag=lambda s, cbf: 0)
+port("cbf[0] left out of the empty block", empty_flag=lambda s, cbf: 0)
+port("cbf's two columns exchanged", coded_flag=lambda s, cbf: cbf[0], empty_flag=lambda s, cbf: cbf[1])
+port("D over places of m 1 and more alone", zero_distortion=lambda s, block, p: block.distortion(p, 0) if block.rounded[p] else 0)
+
+# ---- walk, cut, count, price
+port("m before 0", allowed=lambda s, m: [m, 0] + ([m - 1] if m >= 2 else []))
+port("m-1 before m", allowed=lambda s, m: [0] + ([m - 1] if m >= 2 else []) + [m])
+port("m-1 before 0", allowed=lambda s, m: ([m - 1] if m >= 2 else []) + [0, m])
+port("m-1 not tried", allowed=lambda s, m: [0, m])
+port("m+1 tried", allowed=lambda s, m: Paper.allowed(s, m) + [m + 1])
+port("m+1 tried where m isn't 0", allowed=lambda s, m: Paper.allowed(s, m) + ([m + 1] if m else []))
+port("m-2 tried", allowed=lambda s, m: Paper.allowed(s, m) + ([m - 2] if m > 2 else []))
+port("0 not tried", allowed=lambda s, m: [m] + ([m - 1] if m >= 2 else []))
+port("a later cut at equal price", cut=lambda s, priced: min(reversed(priced), key=lambda p: p[0])[1])
+port("the empty block last at equal price", cut=lambda s, priced: min(priced[1:] + priced[:1], key=lambda p: p[0])[1])
+port("the empty block not tried", cut=lambda s, priced: min(priced[1:] or priced, key=lambda p: p[0])[1])
+port("no cut", cut=lambda s, priced: priced[-1][1])
+port("the first cut that is dearer ends the search", cut=lambda s, priced: next((a[1] for a, b in zip(priced, priced[1:]) if b[0] > a[0]), priced[-1][1]))
+port("a cut behind a zero level too", may_end=lambda s, a: True)
+port("the count before the cut", count=lambda s, block, levels: sum(a != 0 for a in s.walk(block)))
+port("the count of places to the last", count=lambda s, block, levels: max((p + 1 for p, a in enumerate(levels) if a), default=0))
+port("the count in 8 bits", count=lambda s, block, levels: Paper.count(s, block, levels) % 256)
+port("the count in 10 bits", count=lambda s, block, levels: Paper.count(s, block, levels) % 1024)
+port("the price by way of an f64", price=lambda s, block, levels: int(float(block.price(levels))))
+port("the price in 32 bits", price=lambda s, block, levels: block.price(levels) % 2 ** 32)
+port("the price before the cut", price=lambda s, block, levels: block.price(s.walk(block)))
+port("the price without the cut's flag", price=lambda s, block, levels: block.price(levels) - block.lambda_ * block.last[1] * any(levels))
+port("the price without what is cut off", price=lambda s, block, levels: block.price(levels) - block.uncoded[max((p + 1 for p, a in enumerate(levels) if a), default=0)])
+port("an empty block's price is 0", price=lambda s, block, levels: block.price(levels) if any(levels) else 0)
+port("the two flags exchanged", quantise=lambda s, *of: Paper.quantise(s, *of[:5], of[6], of[5], of[7]),
+     sub_block=lambda s, *of: Paper.sub_block(s, *of[:5], of[6], of[5], of[7]))
+port("every level without its sign", finished=lambda s, block: (lambda n, price, out: (n, price, [abs(a) for a in out]))(*Paper.finished(s, block)))
+port("always zeros", chosen=lambda s, block: [0] * len(block.places))
+
+
+# ---- three components
+def early(paper, buffer, luma, run, *settings):
+    """Y is written before U is refused."""
+    try:
+        return Paper.sub_block(paper, buffer, luma, run, *settings)
+    except Refused as refused:
+        if refused.number >= 7:
+            buffer[:] = Paper.sub_block(paper, buffer, luma, run & ((1 << refused.component) - 1), *settings)[1]
+        raise
+
+
+def left(paper, buffer, luma, run, *settings):
+    """The coefficients stay in the buffer of a call that is refused by 7, 8 or 9."""
+    try:
+        return Paper.sub_block(paper, buffer, luma, run, *settings)
+    except Refused as refused:
+        for k, (start, end) in enumerate(paper.stretches(luma)):
+            if refused.number >= 7 and k <= refused.component and paper.runs(run, k):
+                buffer[start:end] = paper.coefficients(buffer[start:end], luma - (k != Y), luma - (k != Y))
+        raise
+
+
+def cleared_when_refused(paper, buffer, log2, *settings):
+    try:
+        return Paper.quantise(paper, buffer, log2, *settings)
+    except Refused as refused:
+        if refused.number >= 7:
+            buffer[:paper.places(log2, log2)] = [0] * paper.places(log2, log2)
+        raise
+
+
+def sub_block_with(change):
+    """The settings changed before the call."""
+    return lambda paper, buffer, luma, run, qp, d, *rest: Paper.sub_block(paper, buffer, luma, run, *change(qp, d), *rest)
+
+
+def read_by(run, at):
+    """Whether an entry of the cost tables serves a component that runs."""
+    luma, chroma = run & 1, run & 6
+    if at < 16:
+        return luma if at % 8 < 4 else chroma
+    if at < 20:
+        return luma if at < 18 else chroma
+    return luma if at < 24 else run & (2 if at < 26 else 4)
+
+
+def moved(by, of):
+    def stretches(paper, luma):
+        return [(start + by, end + by) if k == of else (start, end) for k, (start, end) in enumerate(Paper.stretches(paper, luma))]
+    return stretches
+
+
+port("Y written before U has been refused", sub_block=early)
+port("coefficients left behind by a refusal", sub_block=left)
+port("a block cleared, then refused", quantise=cleared_when_refused)
+port("U and V merely zeroed", finished=lambda s, block: Paper.finished(s, block) if block.component == Y else (0, 0, [0] * len(block.places)))
+port("settings read of a component not run", settings_read=lambda s, run: [Y, U, V])
+port("samples read of a component not run", samples_read=lambda s, run: [Y, U, V])
+port("what is not run is cleared", not_run=lambda s, residuals: (0, 0, [0] * len(residuals)))
+port("bit 3 of the mask as V", runs=lambda s, run, k: run >> (3 if k == V else k) & 1 == 1)
+port("bit 3 of the mask as V too", runs=lambda s, run, k: run >> k & 1 == 1 or k == V and run >> 3 & 1 == 1)
+port("bit 3 of the mask as Y too", runs=lambda s, run, k: run >> k & 1 == 1 or k == Y and run >> 3 & 1 == 1)
+port("the mask's bits from 1 on", runs=lambda s, run, k: run >> (k + 1) & 1 == 1)
+port("a mask above 7 runs nothing", runs=lambda s, run, k: run < 8 and run >> k & 1 == 1)
+port("everything runs", runs=lambda s, run, k: True)
+port("bits 1 and 2 exchanged", runs=lambda s, run, k: run >> (Y, V, U)[k] & 1 == 1)
+port("test 4 left out when nothing runs", cost_fault=lambda s, costs, run: run & 7 != 0 and Paper.cost_fault(s, costs, run))
+port("test 4 of entries that are read alone", cost_fault=lambda s, costs, run: any(e > s.COST and read_by(run, at) for at, e in enumerate(costs.entries)))
+port("test 4 leaves the last entry out", cost_fault=lambda s, costs, run: any(e > s.COST for e in costs.entries[:27]))
+port("V's stretch a place early", stretches=moved(-1, V))
+port("U's stretch a place early", stretches=moved(-1, U))
+port("U and V exchanged", stretches=lambda s, luma: [Paper.stretches(s, luma)[k] for k in (Y, V, U)])
+port("Y's QP for all", sub_block=sub_block_with(lambda qp, d: ([qp[0]] * 3, d)))
+port("Y's lambda for all", sub_block=sub_block_with(lambda qp, d: (qp, [d[0]] * 3)))
+port("U's settings for V", sub_block=sub_block_with(lambda qp, d: ([qp[0], qp[1], qp[1]], [d[0], d[1], d[1]])))
+port("refusal 5 by what is run", needed=lambda s, luma, run: max([0] + [s.stretches(luma)[k][1] for k in (Y, U, V) if s.runs(run, k)]))
+port("refusal 5 only if something runs", needed=lambda s, luma, run: Paper.needed(s, luma, run) if run & 7 else 0)
+port("refusal 5 by luma alone", needed=lambda s, luma, run: s.places(luma, luma))
+
+
+# ---- refusals
+def place(number, component):
+    """Sorted by this, the tests of every call stand in the paper's order."""
+    return (number, component, 0) if number < 7 else (7, component, number)
+
+
+def exchange(one, other):
+    """Two numbers of the order exchanged."""
+    return lambda paper, tests: sorted(tests, key=lambda t: place({one: other, other: one}.get(t[0], t[0]), t[1]))
+
+
+def exchange_components(numbers, one, other):
+    """Two components exchanged where these numbers are tested."""
+    return lambda paper, tests: sorted(tests, key=lambda t: place(t[0], {one: other, other: one}.get(t[1], t[1]) if t[0] in numbers else t[1]))
+
+
+def through(call, ordered):
+    """One call with its tests in another order."""
+    other = type("Ordered", (Paper,), {"ordered": ordered})()
+    return {call: lambda paper, *of: getattr(other, call)(*of)}
+
+
+def by_component(number, component):
+    """1; 2 and 3 of Y, of U, of V; 4; 5; 6 to 9 of Y, of U, of V."""
+    return (2, component) if number in (2, 3) else (6, component) if number >= 6 else (number, 0)
+
+
+def without_one(block):
+    """A block whose largest magnitude counts one less in refusal 8, and in refusal 7 as it is."""
+    lessened = copy.copy(block)
+    lessened.lambda_ = fractions.Fraction(block.lambda_ * max(block.rounded), max(block.rounded) + 1)
+    return lessened
+
+
+def told(paper, buffer, log2, component, *settings):
+    """1, 4 and 5 with the component that the quantiser was told."""
+    try:
+        return Paper.quantise(paper, buffer, log2, component, *settings)
+    except Refused as refused:
+        raise Refused(refused.number, component)
+
+
+def lets_skipped_pass(paper, buffer, log2, *settings):
+    """6 is not given where the block is skipped."""
+    try:
+        return Paper.quantise(paper, buffer, log2, *settings)
+    except Refused as refused:
+        n = paper.places(log2, log2)
+        if refused.number == 6 and Block(paper, buffer[:n], log2, *settings).skipped:
+            return 0, 0, [0] * n + buffer[n:]
+        raise
+
+
+for one in range(1, 9):
+    port("quantiser: refusals %d and %d exchanged" % (one, one + 1), **through("quantise", exchange(one, one + 1)))
+for one in range(1, 8):
+    port("three components: refusals %d and %d exchanged" % (one, one + 1), **through("sub_block", exchange(one, one + 1)))
+for numbers in ((2,), (3,), (6,), (7, 8, 9)):
+    for one, other in ((Y, U), (U, V)):
+        port("refusals %s: %s before %s" % (", ".join(map(str, numbers)), "YUV"[other], "YUV"[one]), ordered=exchange_components(numbers, one, other))
+port("transform: refusals 1 and 5 exchanged", **through("transform", exchange(1, 5)))
+port("transform: refusals 5 and 6 exchanged", **through("transform", exchange(5, 6)))
+port("refusal 4 first of all", ordered=lambda s, tests: sorted(tests, key=lambda t: t[0] != 4))
+port("every test of Y, then of U, then of V", ordered=lambda s, tests: sorted(tests, key=lambda t: by_component(t[0], t[1])))
+port("U's 2 after Y's 3", ordered=lambda s, tests: sorted(tests, key=lambda t: (2, t[1]) if t[0] in (2, 3) else (min(t[0], 7), 0)))
+port("refusal 6 in the surplus", sampled=lambda s, buffer, n: buffer)
+port("refusal 6 not at the last place", sampled=lambda s, buffer, n: buffer[:n - 1])
+port("refusal 6 not asked of the quantiser", coefficient_fault=lambda s, block: False)
+port("a magnitude of -32768 wraps, so that it is skipped", scaled=lambda s, c, qp: (c if c == -32768 else abs(c)) * s.q(qp),
+     coefficient_fault=lambda s, block: False)
+port("M for M+1 in refusal 8", late_tests=lambda s, k, block: Paper.late_tests(s, k, lambda: without_one(block())))
+port("component 1 for V", ordered=lambda s, tests: [(n, min(k, 1), fault) for n, k, fault in tests])
+port("component of a refusal always 0", ordered=lambda s, tests: [(n, 0, fault) for n, k, fault in tests])
+port("the quantiser's 1, 4 and 5 with its component", quantise=told)
+
+# ---- limits
+port("log2 side 0 taken", LEAST_SIDE=0)
+port("log2 side 1 refused", LEAST_SIDE=2)
+port("log2 side 6 taken", MOST_SIDE=6)
+port("log2 side 5 refused", MOST_SIDE=4)
+port("luma of log2 side 1 taken", LEAST_LUMA=1)
+port("luma of log2 side 2 refused", LEAST_LUMA=3)
+port("QP 64 taken", QP=64)
+port("QP 63 refused", QP=62)
+port("the f64 past 8192 taken", LAMBDA=math.nextafter(8192, 9000), lambda_of=lambda s, d: Paper.lambda_of(s, min(d, 8192.0)))
+port("lambda 8192 refused", LAMBDA=math.nextafter(8192, 0))
+port("a cost of 1,048,577 taken", COST=1048577)
+port("a cost of 1,048,576 refused", COST=1048575)
+port("a residual of 1024 taken", RESIDUAL=1024)
+port("a residual of 1023 refused", RESIDUAL=1022)
+port("a residual of -1024 taken", residual_fault=lambda s, residuals: any(not -1024 <= r <= 1023 for r in residuals))
+port("a coefficient of -32767 refused", COEFFICIENT=32766)
+port("a coefficient of 32767 refused", coefficient_fault=lambda s, block: any(abs(c) >= 32767 for c in block))
+port("m of 32768 taken", LEVEL=32768)
+port("m of 32767 refused", LEVEL=32766)
+port("lambda × (M+1) of 2^41 refused", PRICE=(1 << 41) - 1)
+port("the nearest lambda × (M+1) past 2^41 taken", PRICE=(lambda step, m: step * (m + 1))(*by_hand.nearest_past(1 << 41)))
+port("D of 2^60 refused", DISTORTION=(1 << 60) - 1)
+port("D of 2^60 + 2^26 taken", DISTORTION=(1 << 60) + (1 << 26))
+
+
+# ---- the line protocol
+def cut_to(bits, low=0):
+    """A number of up to 20 digits, cut to its low bits."""
+    return lambda words: (words.whole(-10 ** 19, 10 ** 20) - low) % (1 << bits) + low
+
+
+def bits_read(words):
+    """Hex digits, however many."""
+    w = words.word()
+    if not w or not set(w) <= set(b"0123456789abcdef"):
+        raise Malformed
+    return struct.unpack(">d", (int(w, 16) % 2 ** 64).to_bytes(8, "big"))[0]
+
+
+def samples_there(words):
+    """As many samples as there are, up to N."""
+    n = words.whole(0, 8192)
+    words.buffer = [words.sample() for _ in range(min(n, len(words.words) - words.at))]
+    words.end()
+    return words.buffer
+
+
+def quantise_without_surplus(paper, buffer, log2, *settings):
+    count, price, after = Paper.quantise(paper, buffer, log2, *settings)
+    return count, price, after[:paper.places(log2, log2)]
+
+
+def sub_block_without_surplus(paper, buffer, luma, run, *settings):
+    answers, after = Paper.sub_block(paper, buffer, luma, run, *settings)
+    return answers, after[:paper.needed(luma, run)]
+
+
+reader("-0 read", WHOLE=rb"-?(0|[1-9][0-9]*)")
+reader("a leading zero read", WHOLE=rb"-?[0-9]+")
+reader("+1 read", WHOLE=rb"0|[-+]?[1-9][0-9]*")
+reader("N above 8192 read", MOST_SAMPLES=9000)
+reader("N of 8192 not read", MOST_SAMPLES=8191)
+reader("upper-case hex read", BITS=rb"[0-9a-fA-F]{16}")
+reader("LAMBDA of any length read", f64=bits_read)
+reader("runs of spaces read as one", split=lambda s, line: [w for w in line.split(b" ") if w] or [b""])
+reader("any white space read", split=lambda s, line: line.split() or [b""])
+reader("a space at the end read", split=lambda s, line: line[:-1].split(b" ") if line.endswith(b" ") else line.split(b" "))
+reader("a space at the front read", split=lambda s, line: line[1:].split(b" ") if line.startswith(b" ") else line.split(b" "))
+reader("a carriage return at the end read", split=lambda s, line: line.rstrip(b"\r").split(b" "))
+reader("verbs read in upper case too", split=lambda s, line: [w.lower() if i == 0 else w for i, w in enumerate(line.split(b" "))])
+reader("what follows a NUL not read", split=lambda s, line: line.split(b"\0")[0].split(b" "))
+reader("the high bit of a byte not read", split=lambda s, line: bytes(c & 127 for c in line).split(b" "))
+reader("words behind the samples not read", end=lambda s: None)
+reader("N above the number of samples read", samples=samples_there)
+reader("samples cut to 16 bits", sample=cut_to(16, -32768))
+reader("u32 fields cut to 32 bits", u32=cut_to(32))
+reader("log2 sides cut to 32 bits", log2=lambda s: Words.log2(s) % 2 ** 32)
+reader("log2 sides cut to 64 bits", log2=cut_to(64))
+reader("costs cut to 32 bits", costs=lambda s: Costs([e % 2 ** 32 for e in Words.costs(s).entries]))
+reader("costs of 63 bits alone read", costs=lambda s: Costs([s.whole(0, 2 ** 63 - 1) for _ in range(28)]))
+reader("QP cut to 8 bits", u32=lambda s: Words.u32(s) % 256 if s.at in (3, 5, 7, 9) else Words.u32(s))
+reader("COMPONENT 3 read as V", component=lambda s: min(V, s.whole(0, 3)))
+reader("COMPONENT above 2 cut to 8 bits", component=lambda s: s.whole(0, 2 ** 64) % 256 % 3)
+reader("a flag is yes when it is 1", flag=lambda s: s.u32() == 1)
+reader("a flag is yes when it is odd", flag=lambda s: s.u32() % 2 == 1)
+reader("a flag above 1 not read", flag=lambda s: s.whole(0, 1) == 1)
+reader("a line of 58,083 bytes not read", LONGEST_LINE=58082)
+port("the rest of a long line read as a line", lines=lambda s, data: [line[i:i + 65535] for line in Paper.lines(s, data) for i in range(0, max(1, len(line)), 65535)])
+port("an empty line passed over", lines=lambda s, data: [line for line in Paper.lines(s, data) if line])
+port("a last line without newline passed over", lines=lambda s, data: data.split(b"\n")[:-1])
+port("the surplus not printed by the transform", transform=lambda s, buffer, lw, lh: Paper.transform(s, buffer, lw, lh)[:s.places(lw, lh)])
+port("the surplus not printed by the quantiser", quantise=quantise_without_surplus)
+port("the surplus not printed by three components", sub_block=sub_block_without_surplus)
+
+# ---- ports that can't differ: what is said of them is checked as far as the stored requests go
+equal("7, 8 and 9 asked of a skipped block too", "there m is at most 1, lambda × 2 at most 2^29, D below 2^57", meets_late_tests=lambda s, block: True)
+equal("-32768 let through where the block is skipped", "no QP skips a magnitude of 32768", quantise=lets_skipped_pass)
+equal("7 of Y, U, V, then 8, then 9", "of three components only luma of side 32 reaches 7, and none reaches 9",
+      ordered=lambda s, tests: sorted(tests, key=lambda t: t[0]))
+equal("three components: refusals 8 and 9 exchanged", "no residuals reach 9", **through("sub_block", exchange(8, 9)))
+equal("the source's cap on L", "32767 × 26214 is below it", scaled=lambda s, c, qp: min(Paper.scaled(s, c, qp), 2 ** 31 - 1 - (1 << 13)))
+equal("m-1 tried where m is 1", "it is 0 once more", allowed=lambda s, m: [0, m] + ([m - 1] if m else []))
+equal("a line of more than 65,535 bytes read", "the longest request that can be read has 58,083", Words=type("Words", (Words,), {"LONGEST_LINE": 10 ** 9}))
+equal("lambda × (M+1) of 2^41 + 3 taken", "the nearest product past 2^41 is 2^41 + 4", PRICE=(1 << 41) + 3)
+
+
+# ---- the stored requests, and who gets them wrong
+def stored():
+    """For each file, its data as `tq` reads it or its requests, and the recorded answers."""
+    files = {}
+    for name in ("tq/stdin", "tq/stdout", "replay/stdin"):
+        with open(os.path.join(HERE, "crates", name), "rb") as f:
+            files[name] = f.read()
+    replay = Paper().lines(files["replay/stdin"])
+    return files["tq/stdin"], Paper().lines(files["tq/stdout"]), replay[::2], replay[1::2]
+
+
+def wrong_answers(paper, requests, recorded, enough):
+    """How many answers are wrong, up to enough, and the number of the first."""
+    wrong, first = 0, None
+    for i, (request, answer) in enumerate(itertools.zip_longest(requests, recorded)):
+        if request is None or answer is None or paper.answer(request) != answer:
+            wrong, first = wrong + 1, first or i + 1
+            if wrong == enough:
+                break
+    return wrong, first
+
+
+def tried(job):
+    at, enough = job
+    paper, (data, said, requests, recorded) = ([Paper] + PORTS + EQUAL)[at](), stored()
+    return at, wrong_answers(paper, paper.lines(data), said, enough), wrong_answers(paper, requests, recorded, enough)
+
+
+def row(paper, tq, replay, enough, sections):
+    count = lambda wrong: "%d%s" % (wrong, "+" if wrong == enough else "")
+    first = "tq %d, %s" % (tq[1], sections[tq[1] - 1]) if tq[0] else "replay %d" % replay[1] if replay[0] else "-"
+    return "%-52s %5s %6s  %s" % ("the paper itself" if paper is Paper else paper.__name__, count(tq[0]), count(replay[0]), first)
+
+
+def main():
+    words = [w for w in sys.argv[1:] if w != "--all"]
+    enough = 0 if "--all" in sys.argv else 10
+    everyone = [Paper] + PORTS + EQUAL
+    asked = [i for i, p in enumerate(everyone) if not words or any(w in p.__name__ for w in words)]
+    sections, bad, caught = [name for name, _ in by_hand.requests()], [], [0, 0, 0]
+    print("%-52s %5s %6s  %s" % ("", "tq", "replay", "first"))
+    with multiprocessing.Pool(2) as pool:
+        for at, tq, replay in pool.imap(tried, [(i, enough) for i in asked]):
+            paper, wrong = everyone[at], 1 <= at <= len(PORTS)
+            print(row(paper, tq, replay, enough, sections), flush=True)
+            if wrong != (tq[0] + replay[0] > 0):
+                bad.append(paper.__name__)
+            if wrong:
+                caught = [n + 1 if c else n for n, c in zip(caught, (tq[0], replay[0], tq[0] + replay[0]))]
+    ports = sum(1 <= at <= len(PORTS) for at in asked)
+    print("%d wrong ports: %d caught by tq, %d by replay, %d by one of them" % (ports, *caught))
+    for paper in EQUAL if not words else []:
+        print("can't differ: %s: %s" % (paper.__name__, paper.why))
+    if bad:
+        sys.exit("not as it must be: " + "; ".join(bad))
+
+
+if __name__ == "__main__":
+    main()
