@@ -18,3 +18,4 @@ pub mod Coding
 pub mod Answer
 pub mod Accepting
 pub mod Surplus
+pub mod Coincide

@@ -8,3 +8,4 @@ pub mod Late
 pub mod Passed
 pub mod Whole
 pub mod Finished
+pub mod Coincide

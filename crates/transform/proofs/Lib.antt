@@ -9,3 +9,4 @@ pub mod Settle
 pub mod Whole
 pub mod Verdict
 pub mod Bounds
+pub mod Coincide
