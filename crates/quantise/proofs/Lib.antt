@@ -19,3 +19,4 @@ pub mod Answer
 pub mod Accepting
 pub mod Surplus
 pub mod Coincide
+pub mod OwnRows

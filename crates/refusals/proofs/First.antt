@@ -85,6 +85,11 @@ abbrev pub orElse : Verdict → Verdict → Verdict
 orElse accepted v = v
 orElse (refused n c) v = refused n c
 
+-- accepted only if both are
+pub both-accepted : (x y : Verdict) → orElse x y ≡ accepted → (x ≡ accepted) × (y ≡ accepted)
+both-accepted accepted y e = (refl, e)
+both-accepted (refused n c) y e = absurd (let z : _≡_ {A = ℕ} 0 1 = cc in let no : ⊥ = omega arith in no)
+
 module _ {I : Type 0} (i : I) where
   pub verdict-append : (fs gs : List (Fault I)) → verdict (fs ++ gs) i ≡ orElse (verdict fs i) (verdict gs i)
   unfolding verdict

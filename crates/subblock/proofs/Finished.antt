@@ -40,8 +40,8 @@ front b l v e = e ∙ ap (λ (k : ℕ). take k b) (let d : v - 0 ≡ v = omega a
 module _ (b : List ℤ) (q : Request) (m k : ℕ) where
   whole-refused : subBlockVerdict (requested b q) ≡ refused m k
       → (refusedWith m k ≡ subBlockAnswer (requested b q)) × (b ≡ subBlockBuffer (requested b q))
-  unfolding subBlockBuffer requested
-  whole-refused v = (sym (answer-whole (requested b q) ∙ ap (λ (x : Verdict). outcome x (share Y s) (share U s) (share «V» s)) v), rw v)
+  unfolding requested
+  whole-refused v = (sym (answer-whole s ∙ ap (λ (x : Verdict). outcome x (share Y s) (share U s) (share «V» s)) v), sym (refused-leaves s m k v))
     where
       s : SubBlock
       s = requested b q
@@ -100,6 +100,7 @@ module _ (b : List ℤ) (q : Request) (n : ℕ) (z : Sizes (q .side) n) (passed 
         ∙ ap (λ (l : List ℤ). partLeft Y q (stretch Y s) ++ (partLeft U q (stretch U s) ++ partLeft «V» q l)) (is «V»))
 
     pub finished-refused : (why : Refusal) (k : Component) → r ≡ answers.Refused why k → subBlockBuffer s ≡ b
+    unfolding requested
     finished-refused why k e =
-        refused-leaves b q n z ready (passed .settings) (passed .buffer) (numberOf why) (componentOf k)
+        refused-leaves s (numberOf why) (componentOf k)
         (refused-verdict (subBlockVerdict s) (share Y s) (share U s) (share «V» s) (numberOf why) (componentOf k) (sym in-words ∙ ap paperOf e))

@@ -4,17 +4,20 @@
 use mathlib.Core.Path.{_≡_, refl, sym, ap, _∙_}
 use mathlib.Core.Bool.{Bool, true, false, cond, _&&_}
 use mathlib.Core.List.{List, [], _∷_, _++_, map}
-use Prim.Native.Nat.{ℕ, _*_, _^_}
+use Prim.Native.Nat.{ℕ, _≤_}
+use borrow.Author.Tests.{le-ltb}
 use lib.Dec.{ltb}
 use lib.ListN.{length, take}
-use lib.IntN.{ℤ, negsuc}
+use lib.IntN.{negsuc}
 use Rattle.integers.specs.Tests.{some, eqℤ}
 use Rattle.refusals.specs.declared.Component.{Component}
 use Rattle.refusals.specs.declared.Component.the-variants.{Y, U, «V»}
 use Rattle.refusals.specs.Numbers.{numberOf, componentOf}
-use Rattle.refusals.specs.Faults.{Fault, Verdict, accepted, refused, verdict}
+use Rattle.refusals.specs.Faults.{Fault, outside, Verdict, accepted, refused, verdict}
 use Rattle.refusals.proofs.First.{orElse, verdict-append, end, but, accepted-without-a-fault}
-use Rattle.quantise.specs.Block.{Quant}
+use Rattle.price.specs.Lambda.{lambdaRefused}
+use Rattle.price.specs.Costs.{costRefused}
+use Rattle.quantise.specs.Block.{Quant, area}
 use Rattle.quantise.specs.Call as quant
 use Rattle.subblock.specs.Call.{SubBlock, runs, quantOf, inQuant, subBlockFaults, subBlockVerdict}
 use Rattle.subblock.specs.Tested.{settingsFaults, bufferFaults, lateFaults}
@@ -82,7 +85,7 @@ verdict-in-groups s =
     ∙ ap (λ (o : Verdict). orElse (lateOf Y s) (orElse (lateOf U s) o)) (late-is «V» s)))
 
 -- ---- the quantiser alone gives the same verdict of a component whose early tests have passed
-unfoldable pub earlyFaults : List (Fault Quant)
+earlyFaults : List (Fault Quant)
 earlyFaults = quant.sideFault ∷ quant.qpFault ∷ quant.lambdaFault ∷ quant.costFault ∷ quant.lengthFault ∷ quant.sampleFault ∷ []
 
 alone-in-groups : quant.quantFaults ≡ earlyFaults ++ lateFaults
@@ -93,9 +96,18 @@ alone-is : (c : Quant) → quant.quantVerdict c ≡ verdict quant.quantFaults c
 unfolding quant.quantVerdict
 alone-is c = refl
 
-pub alone-late : (c : Quant) → verdict earlyFaults c ≡ accepted → quant.quantVerdict c ≡ verdict lateFaults c
-alone-late c e =
-    alone-is c
-    ∙ ap (λ (fs : List (Fault Quant)). verdict fs c) alone-in-groups
-    ∙ verdict-append c earlyFaults lateFaults
-    ∙ ap (λ (o : Verdict). orElse o (verdict lateFaults c)) e
+module _ (c : Quant) (wide : outside 1 5 (c .lw) ≡ false) (high : outside 1 5 (c .lh) ≡ false) (qp : ltb 63 (c .settings .qp) ≡ false)
+    (lambda : lambdaRefused (c .settings .lambda) ≡ false) (costs : costRefused (c .costs) ≡ false) (long : area c ≤ length (c .buffer))
+    (small : some (λ z. eqℤ z (negsuc 32767)) (take (area c) (c .buffer)) ≡ false) where
+  early-passes : verdict earlyFaults c ≡ accepted
+  unfolding earlyFaults quant.sideFault quant.qpFault quant.lambdaFault quant.costFault quant.lengthFault quant.sampleFault
+  early-passes =
+      accepted-without-a-fault c earlyFaults
+      (but (rw (wide, high)) (but qp (but lambda (but costs (but (le-ltb (length (c .buffer)) (area c) long) (but small end))))))
+
+  pub alone-late : quant.quantVerdict c ≡ verdict lateFaults c
+  alone-late =
+      alone-is c
+      ∙ ap (λ (fs : List (Fault Quant)). verdict fs c) alone-in-groups
+      ∙ verdict-append c earlyFaults lateFaults
+      ∙ ap (λ (o : Verdict). orElse o (verdict lateFaults c)) early-passes

@@ -5,7 +5,9 @@ pub mod OneComponent
 pub mod ThreeParts
 pub mod Turns
 pub mod Late
+pub mod Accepted
 pub mod Passed
 pub mod Whole
+pub mod Alone
 pub mod Finished
 pub mod Coincide

@@ -32,38 +32,46 @@ side-low Y n h = omega arith
 side-low U n h = omega arith
 side-low «V» n h = omega arith
 
-side-high : (k : Component) (n : ℕ) → n ≤ 5 → sideOf k n ≤ 5
+pub side-high : (k : Component) (n : ℕ) → n ≤ 5 → sideOf k n ≤ 5
 side-high Y n h = omega arith
 side-high U n h = omega arith
 side-high «V» n h = omega arith
 
-pub side-inside : (k : Component) (q : Request) → 2 ≤ q .side → q .side ≤ 5 → outside 1 5 (sideIn k q) ≡ false
-side-inside k q a b = not-outside 1 5 (sideIn k q) (side-low k (q .side) a) (side-high k (q .side) b)
+pub side-inside : (k : Component) (n : ℕ) → 2 ≤ n → n ≤ 5 → outside 1 5 (sideOf k n) ≡ false
+side-inside k n a b = not-outside 1 5 (sideOf k n) (side-low k n a) (side-high k n b)
 
-module _ (k : Component) (q : Request) (r : List ℤ) (ready : Ready k q r) (run : bit k (q .run) ≡ true) where
-  its-trans : Trans
-  its-trans = trans.called r (sideIn k q) (sideIn k q)
-
-  trans-accepted : transVerdict (trans.called r (sideIn k q) (sideIn k q)) ≡ accepted
-  unfolding transVerdict transFaults sideFault lengthFault sampleFault places
-  trans-accepted =
-      accepted-without-a-fault (trans.called r (sideIn k q) (sideIn k q)) transFaults
-      (but (rw (side-inside k q (ready .low) (ready .high)))
-      (but (le-ltb (length r) (2 ^ sideIn k q * 2 ^ sideIn k q) (omega (arith, ready .long)))
-      (but
-      (ap (λ (l : List ℤ). some wild l) (take-all (2 ^ sideIn k q * 2 ^ sideIn k q) r (omega (arith, ready .long))) ∙ ready .tame run)
+-- tame residuals that fill their block: the transform accepts them, and leaves their coefficients
+module _ (t : Trans) (wide : outside 1 5 (t .lw) ≡ false) (high : outside 1 5 (t .lh) ≡ false) (long : length (t .buffer) ≡ places t)
+    (tame : some wild (t .buffer) ≡ false) where
+  pub block-accepted : transVerdict t ≡ accepted
+  unfolding transVerdict transFaults sideFault lengthFault sampleFault
+  block-accepted =
+      accepted-without-a-fault t transFaults
+      (but (rw (wide, high))
+      (but (le-ltb (length (t .buffer)) (places t) (omega arith))
+      (but (ap (λ (l : List ℤ). some wild l) (take-all (places t) (t .buffer) (omega arith)) ∙ tame)
       end)))
 
-  nothing-behind : drop (2 ^ sideIn k q * 2 ^ sideIn k q) r ≡ []
-  nothing-behind = ap (λ (n : ℕ). drop n r) (sym (ready .long)) ∙ drop-length r
+  pub block-leaves : transBuffer t ≡ coefficients (t .buffer) (t .lw) (t .lh)
+  unfolding transBuffer transformed
+  block-leaves =
+      rw block-accepted
+      (ap (λ (l : List ℤ). coefficients (t .buffer) (t .lw) (t .lh) ++ l) (ap (λ (n : ℕ). drop n (t .buffer)) (sym long) ∙ drop-length (t .buffer))
+      ∙ append-nil (coefficients (t .buffer) (t .lw) (t .lh)))
+
+module _ (k : Component) (q : Request) (r : List ℤ) (ready : Ready k q r) (run : bit k (q .run) ≡ true) where
+  abbrev its-trans : Trans
+  its-trans = trans.called r (sideIn k q) (sideIn k q)
+
+  trans-accepted : transVerdict its-trans ≡ accepted
+  unfolding places
+  trans-accepted = let i = side-inside k (q .side) (ready .low) (ready .high) in block-accepted its-trans i i (ready .long) (ready .tame run)
 
   pub trans-leaves : (l : ℕ) → l ≡ sideIn k q → transBuffer (trans.called r l l) ≡ coefficients r l l
-  unfolding transBuffer transformed places
+  unfolding places
   trans-leaves l e =
-      subst (λ (n : ℕ). transBuffer (trans.called r n n) ≡ coefficients r n n) (sym e)
-      (rw trans-accepted
-      (ap (λ (t : List ℤ). coefficients r (sideIn k q) (sideIn k q) ++ t) nothing-behind
-      ∙ append-nil (coefficients r (sideIn k q) (sideIn k q))))
+      let i = side-inside k (q .side) (ready .low) (ready .high) in
+      subst (λ (n : ℕ). transBuffer (trans.called r n n) ≡ coefficients r n n) (sym e) (block-leaves its-trans i i (ready .long) (ready .tame run))
 
   pub trans-passes : (l : ℕ) → l ≡ sideIn k q → transVerdict (trans.called r l l) ≡ accepted
   trans-passes l e = subst (λ (n : ℕ). transVerdict (trans.called r n n) ≡ accepted) (sym e) trans-accepted

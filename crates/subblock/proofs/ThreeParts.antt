@@ -13,7 +13,7 @@ use borrow.Rule.Slice.PartMut.{midOf, putMid}
 use Rattle.refusals.specs.declared.Component.{Component}
 use Rattle.refusals.specs.Faults.{Verdict, accepted, refused, ifAccepted}
 use Rattle.transform.proofs.Bounds.{coefficients-long}
-use Rattle.quantise.specs.Block.{Quant, coding, laid, blockPlaces, signs, scanned, magnitudes, quantised}
+use Rattle.quantise.specs.Block.{Quant, coding, blockPlaces, signs, scanned, magnitudes, quantised}
 use Rattle.quantise.specs.Call.{quantVerdict, quantBuffer}
 use Rattle.quantise.proofs.Laid.{laid-length}
 use Rattle.subblock.specs.declared.Request.{Request}
@@ -85,13 +85,16 @@ in-three l n m k =
     ∙ take-append-drop n l
 
 -- ---- what a component leaves is as long as what it was given
+pub quantised-length : (c : Quant) → length (quantised c) ≡ length (c .buffer)
+unfolding quantised
+quantised-length c = laid-length (blockPlaces c) (signs (scanned c) (magnitudes c)) (c .buffer)
+
 quant-length : (c : Quant) → length (quantBuffer c) ≡ length (c .buffer)
-unfolding quantBuffer quantised
+unfolding quantBuffer
 quant-length c = by (quantVerdict c)
   where
-    by : (v : Verdict)
-        → length (ifAccepted v (laid (blockPlaces c) (signs (scanned c) (magnitudes c)) (c .buffer)) (c .buffer)) ≡ length (c .buffer)
-    by accepted = laid-length (blockPlaces c) (signs (scanned c) (magnitudes c)) (c .buffer)
+    by : (v : Verdict) → length (ifAccepted v (quantised c) (c .buffer)) ≡ length (c .buffer)
+    by accepted = quantised-length c
     by (refused n k) = refl
 
 pub left-length : (k : Component) (q : Request) (r : List ℤ) → Ready k q r → length (partLeft k q r) ≡ length r

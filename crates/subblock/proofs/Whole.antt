@@ -6,14 +6,12 @@ use mathlib.Core.Bool.{Bool, true, false, cond}
 use mathlib.Core.List.{List, _++_, append-assoc}
 use Prim.Native.Nat.{ℕ, _+_, _*_, _/_, _^_, _≤_}
 use native.Mathlib.Omega.{arith}
-use borrow.Author.Tests.{le-ltb}
 use lib.ListN.{length, take, drop}
-use lib.IntN.{ℤ, negsuc}
-use Rattle.integers.specs.Tests.{some, eqℤ}
+use lib.IntN.{ℤ}
 use Rattle.refusals.specs.declared.Component.{Component}
 use Rattle.refusals.specs.declared.Component.the-variants.{Y, U, «V»}
 use Rattle.refusals.specs.Faults.{Verdict, accepted, refused, verdict}
-use Rattle.refusals.proofs.First.{orElse, end, but, accepted-without-a-fault}
+use Rattle.refusals.proofs.First.{orElse}
 use Rattle.transform.specs.Coefficients.{coefficients}
 use Rattle.transform.proofs.Bounds.{coefficients-long, none-is-least}
 use Rattle.quantise.specs.Block.{Quant, coding, area, countOf, priceOf, quantised}
@@ -23,40 +21,27 @@ use Rattle.subblock.specs.Call.{SubBlock, requested, bit, runs, stretch,
 use Rattle.subblock.specs.Call as three
 use Rattle.subblock.specs.Tested.{settingsFaults, bufferFaults, lateFaults, Sizes}
 use Rattle.subblock.specs.Parts.{sideIn, quantIn, Ready, partAnswer, partLeft, residuals, joined}
-use Rattle.subblock.proofs.OneComponent.{side-inside}
-use Rattle.subblock.proofs.Late.{lateOf, verdict-in-groups, earlyFaults, alone-late}
+use Rattle.subblock.proofs.OneComponent.{side-high, side-inside}
+use Rattle.subblock.proofs.Late.{lateOf, verdict-in-groups, alone-late}
+use Rattle.subblock.proofs.Accepted.{late-passed}
 
 -- ---- a component
-side-small : (k : Component) (q : Request) → q .side ≤ 5 → sideIn k q ≤ 5
-side-small Y q h = h
-side-small U q h = omega arith
-side-small «V» q h = omega arith
-
--- no coefficient of tame residuals is -32768
-least-free : (k : Component) (q : Request) (r : List ℤ) → Ready k q r → bit k (q .run) ≡ true
-    → some (λ z. eqℤ z (negsuc 32767)) (take (2 ^ sideIn k q * 2 ^ sideIn k q) (coefficients r (sideIn k q) (sideIn k q))) ≡ false
-least-free k q r ready run =
-    let s = side-small k q (ready .high) in
-    none-is-least (sideIn k q) (sideIn k q) s s r (ready .long) (ready .tame run)
-
-early-passes : (k : Component) (q : Request) (r : List ℤ) → Ready k q r → bit k (q .run) ≡ true → verdict earlyFaults (quantIn k q r) ≡ accepted
-unfolding earlyFaults quant.sideFault quant.qpFault quant.lambdaFault quant.costFault quant.lengthFault quant.sampleFault quantIn coding area
-early-passes k q r ready run =
+-- the quantiser alone finds no early fault in the coefficients of tame residuals
+alone-is-late : (k : Component) (q : Request) (r : List ℤ) → Ready k q r → bit k (q .run) ≡ true
+    → quant.quantVerdict (quantIn k q r) ≡ verdict lateFaults (quantIn k q r)
+unfolding quantIn coding area
+alone-is-late k q r ready run =
     let l = sideIn k q in
-    accepted-without-a-fault (quantIn k q r) earlyFaults
-    (but (rw (side-inside k q (ready .low) (ready .high)))
-    (but (ready .qp run)
-    (but (ready .lambda run)
-    (but (ready .costs)
-    (but (le-ltb (length (coefficients r l l)) (2 ^ l * 2 ^ l) (omega (arith, coefficients-long r l l)))
-    (but (least-free k q r ready run)
-    end))))))
+    let i = side-inside k (q .side) (ready .low) (ready .high) in
+    let s = side-high k (q .side) (ready .high) in
+    alone-late (quantIn k q r) i i (ready .qp run) (ready .lambda run) (ready .costs) (omega (arith, coefficients-long r l l))
+    (none-is-least l l s s r (ready .long) (ready .tame run))
 
-answer-alone : (c : Quant) → quant.quantAnswer c ≡ quant.outcome (quant.quantVerdict c) (countOf c) (priceOf c)
+pub answer-alone : (c : Quant) → quant.quantAnswer c ≡ quant.outcome (quant.quantVerdict c) (countOf c) (priceOf c)
 unfolding quant.quantAnswer
 answer-alone c = refl
 
-buffer-alone : (c : Quant) → quant.quantVerdict c ≡ accepted → quant.quantBuffer c ≡ quantised c
+pub buffer-alone : (c : Quant) → quant.quantVerdict c ≡ accepted → quant.quantBuffer c ≡ quantised c
 unfolding quant.quantBuffer
 buffer-alone c e = rw e
 
@@ -64,10 +49,15 @@ pub answer-whole : (s : SubBlock) → subBlockAnswer s ≡ outcome (subBlockVerd
 unfolding subBlockAnswer
 answer-whole s = refl
 
-buffer-whole : (s : SubBlock) → subBlockVerdict s ≡ accepted
+pub buffer-whole : (s : SubBlock) → subBlockVerdict s ≡ accepted
     → subBlockBuffer s ≡ levels Y s ++ (levels U s ++ (levels «V» s ++ drop (start «V» s + three.area «V» s) (s .buffer)))
 unfolding subBlockBuffer codedBuffer
 buffer-whole s e = rw e
+
+-- refused: what it held
+pub refused-leaves : (s : SubBlock) (m c : ℕ) → subBlockVerdict s ≡ refused m c → subBlockBuffer s ≡ s .buffer
+unfolding subBlockBuffer
+refused-leaves s m c v = rw v
 
 -- three outcomes as one
 joined-outcomes : (x y z : Verdict) (a b c d e f : ℕ)
@@ -77,12 +67,6 @@ joined-outcomes (refused m k) y z a b c d e f = refl
 joined-outcomes accepted (refused m k) z a b c d e f = refl
 joined-outcomes accepted accepted (refused m k) a b c d e f = refl
 joined-outcomes accepted accepted accepted a b c d e f = refl
-
--- no refusal among three
-all-accepted : (x y z : Verdict) → orElse x (orElse y z) ≡ accepted → (x ≡ accepted) × (y ≡ accepted) × (z ≡ accepted)
-all-accepted accepted accepted z e = (refl, refl, e)
-all-accepted accepted (refused m k) z e = absurd (let w : _≡_ {A = ℕ} 0 1 = cc in let no : ⊥ = omega arith in no)
-all-accepted (refused m k) y z e = absurd (let w : _≡_ {A = ℕ} 0 1 = cc in let no : ⊥ = omega arith in no)
 
 module _ (b : List ℤ) (q : Request) where
   abbrev s : SubBlock
@@ -109,7 +93,7 @@ module _ (b : List ℤ) (q : Request) where
       by true run =
           answer-alone (quantIn k q (stretch k s))
           ∙ ap (λ (v : Verdict). quant.outcome v (countOf (quantIn k q (stretch k s))) (priceOf (quantIn k q (stretch k s))))
-          (alone-late (quantIn k q (stretch k s)) (early-passes k q (stretch k s) ready run))
+          (alone-is-late k q (stretch k s) ready run)
           ∙ ap (λ (c : Quant). quant.outcome (verdict lateFaults c) (countOf c) (priceOf c)) (quant-is k)
       by false run = refl
 
@@ -122,7 +106,7 @@ module _ (b : List ℤ) (q : Request) where
           → cond t (quant.quantBuffer (quantIn k q (stretch k s))) (stretch k s) ≡ cond t (quantised (quantOf k s)) (stretch k s)
       by true run e =
           buffer-alone (quantIn k q (stretch k s))
-          (alone-late (quantIn k q (stretch k s)) (early-passes k q (stretch k s) ready run)
+          (alone-is-late k q (stretch k s) ready run
           ∙ ap (λ (c : Quant). verdict lateFaults c) (quant-is k)
           ∙ e)
           ∙ ap quantised (quant-is k)
@@ -164,11 +148,10 @@ module _ (b : List ℤ) (q : Request) where
         → subBlockBuffer s ≡ after ++ drop (n + n / 4 + n / 4) b
     unfolding requested
     coded-leaves v after ea =
-        let t = all-accepted (lateOf Y s) (lateOf U s) (lateOf «V» s) (sym verdict-late ∙ v) in
         let D = drop (n + n / 4 + n / 4) b in
-        let y = part-left Y (ready Y) (t .0) in
-        let u = part-left U (ready U) (t .1) in
-        let w = part-left «V» (ready «V») (t .2) in
+        let y = part-left Y (ready Y) (late-passed s v Y) in
+        let u = part-left U (ready U) (late-passed s v U) in
+        let w = part-left «V» (ready «V») (late-passed s v «V») in
         sym
         (ap (λ (x : List ℤ). x ++ D) ea
         ∙ append-assoc (partLeft Y q (stretch Y s)) (partLeft U q (stretch U s) ++ partLeft «V» q (stretch «V» s)) D
@@ -179,8 +162,3 @@ module _ (b : List ℤ) (q : Request) where
         ∙ ap (λ (x : List ℤ). levels Y s ++ (levels U s ++ (x ++ D))) w
         ∙ ap (λ (k : ℕ). levels Y s ++ (levels U s ++ (levels «V» s ++ drop k b))) three-end
         ∙ sym (buffer-whole s v))
-
-    -- refused: what it held
-    pub refused-leaves : (m c : ℕ) → subBlockVerdict s ≡ refused m c → subBlockBuffer s ≡ b
-    unfolding subBlockBuffer requested
-    refused-leaves m c v = rw v
