@@ -14,7 +14,7 @@ use Rattle.price.specs.Rule.{Rule}
 use Rattle.quantise.specs.Block.{Quant, coding, rowsOf, scaleHere, shiftHere, sideOf, lambdaHere, ruleOf, blockPlaces, scanned, places, isSkipped, magnitudes, countOf, priceOf, quantised}
 
 -- the pair of a row is the same
-abbrev SamePair : List ℕ → List ℕ → ℕ → Type 0
+abbrev pub SamePair : List ℕ → List ℕ → ℕ → Type 0
 SamePair a b row = (entry a row 0 ≡ entry b row 0) × (entry a row 1 ≡ entry b row 1)
 
 pub record SameRows (rows : Rows) (a b : Costs) : Type 0 where

@@ -21,13 +21,9 @@ use Rattle.subblock.specs.Tested.{settingsFaults, bufferFaults, Sizes, E
 use Rattle.subblock.specs.Parts.{Ready, partAnswer, partLeft, residuals, AllReady, joined, Parted}
 use Rattle.subblock.proofs.Passed.{room, stretch-is, all-ready}
 use Rattle.subblock.proofs.Late.{verdict-in-groups}
-use Rattle.subblock.proofs.Whole.{answer-is, answer-whole, coded-leaves, refused-leaves}
+use Rattle.subblock.proofs.Whole.{answer-is, answer-whole, coded-accepted, coded-leaves, refused-leaves}
 
--- which verdict an outcome comes from
-coded-verdict : (v : Verdict) (a b c x y z : Share) → outcome v a b c ≡ coded x y z → v ≡ accepted
-coded-verdict accepted a b c x y z e = refl
-coded-verdict (refused m k) a b c x y z e = absurd (let w : _≡_ {A = ℕ} 0 1 = cc in let no : ⊥ = omega arith in no)
-
+-- which verdict a refusal comes from
 refused-verdict : (v : Verdict) (a b c : Share) (m k : ℕ) → outcome v a b c ≡ refusedWith m k → v ≡ refused m k
 refused-verdict accepted a b c m k e = absurd (let w : _≡_ {A = ℕ} 0 1 = cc in let no : ⊥ = omega arith in no)
 refused-verdict (refused n j) a b c m k e = cc
@@ -92,7 +88,7 @@ module _ (b : List ℤ) (q : Request) (n : ℕ) (z : Sizes (q .side) n) (passed 
     finished-coded x y w e =
         let c = ap paperOf e in
         coded-leaves b q n z ready (passed .settings) (passed .buffer)
-        (coded-verdict (subBlockVerdict s) (share Y s) (share U s) (share «V» s) (shareOf x) (shareOf y) (shareOf w) (sym in-words ∙ c))
+        (coded-accepted s (shareOf x) (shareOf y) (shareOf w) (sym finished-answer ∙ c))
         after
         (p .left (shareOf x) (shareOf y) (shareOf w) c
         ∙ ap (λ (l : List ℤ). partLeft Y q l ++ (partLeft U q (residuals U n space) ++ partLeft «V» q (residuals «V» n space))) (is Y)

@@ -9,5 +9,7 @@ pub mod Accepted
 pub mod Passed
 pub mod Whole
 pub mod Alone
+pub mod NotRun
+pub mod LumaAlone
 pub mod Finished
 pub mod Coincide

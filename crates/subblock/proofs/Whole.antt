@@ -17,7 +17,7 @@ use Rattle.transform.proofs.Bounds.{coefficients-long, none-is-least}
 use Rattle.quantise.specs.Block.{Quant, coding, area, countOf, priceOf, quantised}
 use Rattle.quantise.specs.Call as quant
 use Rattle.subblock.specs.declared.Request.{Request}
-use Rattle.subblock.specs.Call.{SubBlock, requested, bit, runs, stretch, start, transOf, quantOf, count, price, share, Outcome, coded, outcome, levels, codedBuffer, subBlockVerdict, subBlockAnswer, subBlockBuffer}
+use Rattle.subblock.specs.Call.{SubBlock, requested, bit, runs, stretch, start, transOf, quantOf, count, price, Share, share, Outcome, coded, outcome, levels, codedBuffer, subBlockVerdict, subBlockAnswer, subBlockBuffer}
 use Rattle.subblock.specs.Call as three
 use Rattle.subblock.specs.Tested.{settingsFaults, bufferFaults, lateFaults, Sizes}
 use Rattle.subblock.specs.Parts.{sideIn, quantIn, Ready, partAnswer, partLeft, residuals, joined}
@@ -48,6 +48,14 @@ buffer-alone c e = rw e
 pub answer-whole : (s : SubBlock) → subBlockAnswer s ≡ outcome (subBlockVerdict s) (share Y s) (share U s) (share «V» s)
 unfolding subBlockAnswer
 answer-whole s = refl
+
+-- a call that answers what was coded is accepted
+pub coded-accepted : (s : SubBlock) (x y z : Share) → subBlockAnswer s ≡ coded x y z → subBlockVerdict s ≡ accepted
+coded-accepted s x y z e = by (subBlockVerdict s) (share Y s) (share U s) (share «V» s) (sym (answer-whole s) ∙ e)
+  where
+    by : (v : Verdict) (a b c : Share) → outcome v a b c ≡ coded x y z → v ≡ accepted
+    by accepted a b c f = refl
+    by (refused m k) a b c f = absurd (let w : _≡_ {A = ℕ} 0 1 = cc in let no : ⊥ = omega arith in no)
 
 pub buffer-whole : (s : SubBlock) → subBlockVerdict s ≡ accepted
     → subBlockBuffer s ≡ levels Y s ++ (levels U s ++ (levels «V» s ++ drop (start «V» s + three.area «V» s) (s .buffer)))

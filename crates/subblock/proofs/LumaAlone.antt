@@ -1,0 +1,112 @@
+-- Luma's count, price and levels in an accepted call depend on no chroma setting, cost or sample: two accepted calls that agree on
+-- luma's sides, settings and residuals, on whether luma is run, on the two flags and on the rows of the cost tables that luma reads, agree
+-- on what is answered of luma and on what is left in its stretch.
+-- Assumes nothing.
+use mathlib.Core.Path.{_≡_, refl, sym, ap, _∙_}
+use mathlib.Core.Bool.{Bool, true, false, cond}
+use Prim.Native.Nat.{ℕ, _+_, _<_}
+use lib.Dec.{lit≤}
+use lib.ListN.{getD}
+use Rattle.refusals.specs.declared.Component.the-variants.{Y}
+use Rattle.transform.specs.Coefficients.{coefficients}
+use Rattle.price.specs.declared.Costs.{Costs}
+use Rattle.price.specs.Costs.{entry, runRow}
+use Rattle.quantise.specs.Block.{Quant, coding, rowsOf, countOf, priceOf, quantised}
+use Rattle.quantise.proofs.OwnRows.{SamePair, SameRows}
+use Rattle.quantise.proofs.OwnRows as own
+use Rattle.subblock.specs.Call.{SubBlock, runs, stretch, transOf, quantOf, count, price, Share, share, coded, levels, subBlockAnswer}
+use Rattle.subblock.proofs.Whole.{coded-accepted}
+use Rattle.subblock.proofs.Alone.{leftIn, left-is, answer-of-three}
+
+-- run and level: the two rows of luma; last: its row; cbf: the rows all and luma
+pub record SameLumaCosts (a b : Costs) : Type 0 where
+  pub run : (i : ℕ) → i < 4 → getD (a .run) i 0 ≡ getD (b .run) i 0
+  pub level : (i : ℕ) → i < 4 → getD (a .level) i 0 ≡ getD (b .level) i 0
+  pub last : (i : ℕ) → i < 2 → getD (a .last) i 0 ≡ getD (b .last) i 0
+  pub cbf : (i : ℕ) → i < 4 → getD (a .cbf) i 0 ≡ getD (b .cbf) i 0
+
+pub record SameLuma (s t : SubBlock) : Type 0 where
+  pub lw : s .lw ≡ t .lw
+  pub lh : s .lh ≡ t .lh
+  pub settings : s .y ≡ t .y
+  pub run : runs Y s ≡ runs Y t
+  pub slice : s .intraSlice ≡ t .intraSlice
+  pub coded : s .intraCoded ≡ t .intraCoded
+  pub residuals : stretch Y s ≡ stretch Y t
+  pub costs : SameLumaCosts (s .costs) (t .costs)
+
+luma-rows : (intraCoded : Bool) (a b : Costs) → SameLumaCosts a b → SameRows (rowsOf Y intraCoded) a b
+unfolding rowsOf entry runRow
+luma-rows intraCoded a b same =
+    record {
+      run = run;
+      level = (same .level 0 (lit≤ tt), same .level 1 (lit≤ tt));
+      further = (same .level 2 (lit≤ tt), same .level 3 (lit≤ tt));
+      last = (same .last 0 (lit≤ tt), same .last 1 (lit≤ tt));
+      cbf = cbf intraCoded;
+    }
+  where
+    run : (z : Bool) → SamePair (a .run) (b .run) (0 + cond z 1 0)
+    run true = (same .run 2 (lit≤ tt), same .run 3 (lit≤ tt))
+    run false = (same .run 0 (lit≤ tt), same .run 1 (lit≤ tt))
+
+    cbf : (c : Bool) → SamePair (a .cbf) (b .cbf) (cond c 1 0)
+    cbf true = (same .cbf 2 (lit≤ tt), same .cbf 3 (lit≤ tt))
+    cbf false = (same .cbf 0 (lit≤ tt), same .cbf 1 (lit≤ tt))
+
+module _ (s t : SubBlock) (same : SameLuma s t) where
+  -- luma's call by the cost tables of either
+  abbrev by : Costs → Quant
+  by c = coding (coefficients (stretch Y t) (t .lw) (t .lh)) (t .lw) (t .lh) Y (t .y) (t .intraSlice) (t .intraCoded) c
+
+  moved : quantOf Y s ≡ by (s .costs)
+  unfolding quantOf transOf
+  moved =
+      λ i.
+      coding (coefficients (same .residuals i) (same .lw i) (same .lh i)) (same .lw i) (same .lh i) Y (same .settings i) (same .slice i)
+      (same .coded i)
+      (s .costs)
+
+  its-own : quantOf Y t ≡ by (t .costs)
+  unfolding quantOf transOf
+  its-own = refl
+
+  rows : SameRows (rowsOf Y (t .intraCoded)) (s .costs) (t .costs)
+  rows = luma-rows (t .intraCoded) (s .costs) (t .costs) (same .costs)
+
+  -- what depends on the cost tables by luma's rows alone
+  luma-by : {A : Type 0} (of : Quant → A) → of (by (s .costs)) ≡ of (by (t .costs)) → of (quantOf Y s) ≡ of (quantOf Y t)
+  luma-by of e = ap of moved ∙ e ∙ ap of (sym its-own)
+
+  counts : countOf (quantOf Y s) ≡ countOf (quantOf Y t)
+  counts =
+      luma-by countOf
+      (own.count-same (coefficients (stretch Y t) (t .lw) (t .lh)) (t .lw) (t .lh) Y (t .y) (t .intraSlice) (t .intraCoded) (s .costs) (t .costs) rows)
+
+  prices : priceOf (quantOf Y s) ≡ priceOf (quantOf Y t)
+  prices =
+      luma-by priceOf
+      (own.price-same (coefficients (stretch Y t) (t .lw) (t .lh)) (t .lw) (t .lh) Y (t .y) (t .intraSlice) (t .intraCoded) (s .costs) (t .costs) rows)
+
+  written : quantised (quantOf Y s) ≡ quantised (quantOf Y t)
+  written =
+      luma-by quantised
+      (own.levels-same (coefficients (stretch Y t) (t .lw) (t .lh)) (t .lw) (t .lh) Y (t .y) (t .intraSlice) (t .intraCoded) (s .costs) (t .costs) rows)
+
+  luma-share : share Y s ≡ share Y t
+  unfolding share count price
+  luma-share = λ i. record { count = cond (same .run i) (counts i) 0; price = cond (same .run i) (prices i) 0 }
+
+  luma-levels : levels Y s ≡ levels Y t
+  unfolding levels
+  luma-levels = λ i. cond (same .run i) (written i) (same .residuals i)
+
+  pub luma-alone : (y u v y′ u′ v′ : Share) → subBlockAnswer s ≡ coded y u v → subBlockAnswer t ≡ coded y′ u′ v′
+      → (y ≡ y′) × (leftIn Y s ≡ leftIn Y t)
+  luma-alone y u v y′ u′ v′ e f =
+      let a = coded-accepted s y u v e in
+      let b = coded-accepted t y′ u′ v′ f in
+      let g = answer-of-three s a in
+      let h = answer-of-three t b in
+      let m = luma-share in
+      (cc, left-is s a Y ∙ luma-levels ∙ sym (left-is t b Y))

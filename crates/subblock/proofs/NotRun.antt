@@ -1,0 +1,136 @@
+-- What is not run is not read: two calls that agree on luma's sides, on what is run, on the flags, the cost tables and the buffer's
+-- length, and on settings and residuals of what is run, have the same answer, accepted or refused, and leave the same in the stretch of
+-- each component that is run. Other bits of the run mask, settings and residuals of what is not run, and the surplus are not spoken of.
+-- Assumes nothing.
+use mathlib.Core.Path.{_≡_, refl, sym, ap, _∙_}
+use mathlib.Core.Bool.{Bool, true, false, cond, _&&_, _||_}
+use mathlib.Core.List.{List, _∷_}
+use Prim.Native.Nat.{ℕ, _*_, _/_}
+use lib.Dec.{ltb}
+use lib.ListN.{length}
+use Rattle.refusals.specs.declared.Component.{Component}
+use Rattle.refusals.specs.declared.Component.the-variants.{Y, U, «V»}
+use Rattle.refusals.specs.Faults.{Fault, outside, Verdict, accepted, refused}
+use Rattle.refusals.proofs.First.{Alike, all, next, same-verdict}
+use Rattle.transform.specs.Coefficients.{coefficients}
+use Rattle.transform.specs.Call.{Trans}
+use Rattle.transform.specs.Call as trans
+use Rattle.price.specs.Costs.{costRefused}
+use Rattle.quantise.specs.Block.{Quant, coding, countOf, priceOf, quantised}
+use Rattle.quantise.specs.Call as quant
+use Rattle.subblock.specs.Call.{SubBlock, runs, settingsOf, sideOf, area, stretch, transOf, quantOf, sideFault, costFault, lengthFault, inTrans, inQuant, subBlockFaults, count, price, share, outcome, levels, subBlockVerdict, subBlockAnswer, subBlockBuffer}
+use Rattle.subblock.proofs.Whole.{answer-whole}
+use Rattle.subblock.proofs.Alone.{leftIn, behind, left-is, refused-left, surplus-stays}
+
+pub record SameWhereRun (s t : SubBlock) : Type 0 where
+  pub lw : s .lw ≡ t .lw
+  pub lh : s .lh ≡ t .lh
+  pub run : (k : Component) → runs k s ≡ runs k t
+  pub slice : s .intraSlice ≡ t .intraSlice
+  pub coded : s .intraCoded ≡ t .intraCoded
+  pub costs : s .costs ≡ t .costs
+  pub long : length (s .buffer) ≡ length (t .buffer)
+  pub settings : (k : Component) → runs k s ≡ true → settingsOf k s ≡ settingsOf k t
+  pub residuals : (k : Component) → runs k s ≡ true → stretch k s ≡ stretch k t
+
+-- what counts only where something is run
+only-run : {A : Type 0} (pick : Bool → A → A) → ((x y : A) → pick false x ≡ pick false y) → (a b : Bool) (x y : A) → a ≡ b
+    → (a ≡ true → x ≡ y) → pick a x ≡ pick b y
+only-run pick idle true b x y e h = ap (pick true) (h refl) ∙ ap (λ (c : Bool). pick c y) e
+only-run pick idle false b x y e h = idle x y ∙ ap (λ (c : Bool). pick c y) e
+
+module _ (s t : SubBlock) (same : SameWhereRun s t) where
+  trans-same : (k : Component) → runs k s ≡ true → transOf k s ≡ transOf k t
+  unfolding transOf
+  trans-same k h = λ i. record { buffer = same .residuals k h i; lw = sideOf k (same .lw i); lh = sideOf k (same .lh i) }
+
+  quant-same : (k : Component) → runs k s ≡ true → quantOf k s ≡ quantOf k t
+  unfolding quantOf transOf
+  quant-same k h =
+      λ i.
+      coding (coefficients (same .residuals k h i) (sideOf k (same .lw i)) (sideOf k (same .lh i))) (sideOf k (same .lw i)) (sideOf k (same .lh i)) k
+      (same .settings k h i)
+      (same .slice i)
+      (same .coded i)
+      (same .costs i)
+
+  -- ---- the faults
+  trans-alike : (k : Component) (f : Fault Trans) {fs : List (Fault SubBlock)} → Alike s t fs → Alike s t (inTrans k f ∷ fs)
+  unfolding inTrans
+  trans-alike k f r =
+      next
+      (only-run (λ b x. b && x) (λ x y. refl) (runs k s) (runs k t) (f .holds (transOf k s)) (f .holds (transOf k t)) (same .run k)
+      (λ h. ap (f .holds) (trans-same k h)))
+      refl
+      r
+
+  quant-alike : (k : Component) (f : Fault Quant) {fs : List (Fault SubBlock)} → Alike s t fs → Alike s t (inQuant k f ∷ fs)
+  unfolding inQuant
+  quant-alike k f r =
+      next
+      (only-run (λ b x. b && x) (λ x y. refl) (runs k s) (runs k t) (f .holds (quantOf k s)) (f .holds (quantOf k t)) (same .run k)
+      (λ h. ap (f .holds) (quant-same k h)))
+      refl
+      r
+
+  late-alike : (k : Component) {fs : List (Fault SubBlock)} → Alike s t fs
+      → Alike s t (inQuant k quant.levelFault ∷ inQuant k quant.priceFault ∷ inQuant k quant.distortionFault ∷ fs)
+  late-alike k r = quant-alike k quant.levelFault (quant-alike k quant.priceFault (quant-alike k quant.distortionFault r))
+
+  alike : Alike s t subBlockFaults
+  unfolding subBlockFaults sideFault costFault lengthFault area
+  alike =
+      next {f = sideFault} (λ i. outside 2 5 (same .lw i) || outside 2 5 (same .lh i)) refl
+      (quant-alike Y quant.qpFault
+      (quant-alike U quant.qpFault
+      (quant-alike «V» quant.qpFault
+      (quant-alike Y quant.lambdaFault
+      (quant-alike U quant.lambdaFault
+      (quant-alike «V» quant.lambdaFault
+      (next {f = costFault} (ap costRefused (same .costs)) refl
+      (next {f = lengthFault} (rw (same .long, same .lw, same .lh)) refl
+      (trans-alike Y trans.sampleFault
+      (trans-alike U trans.sampleFault
+      (trans-alike «V» trans.sampleFault
+      (late-alike Y (late-alike U (late-alike «V» all))))))))))))))
+
+  verdict-same : subBlockVerdict s ≡ subBlockVerdict t
+  unfolding subBlockVerdict
+  verdict-same = same-verdict s t subBlockFaults alike
+
+  -- ---- the answer
+  share-same : (k : Component) → share k s ≡ share k t
+  unfolding share count price
+  share-same k = λ i. record { count = counts i; price = prices i }
+    where
+      or-none : (of : Quant → ℕ) → cond (runs k s) (of (quantOf k s)) 0 ≡ cond (runs k t) (of (quantOf k t)) 0
+      or-none of =
+          only-run (λ b n. cond b n 0) (λ x y. refl) (runs k s) (runs k t) (of (quantOf k s)) (of (quantOf k t)) (same .run k)
+          (λ h. ap of (quant-same k h))
+
+      counts : cond (runs k s) (countOf (quantOf k s)) 0 ≡ cond (runs k t) (countOf (quantOf k t)) 0
+      counts = or-none countOf
+
+      prices : cond (runs k s) (priceOf (quantOf k s)) 0 ≡ cond (runs k t) (priceOf (quantOf k t)) 0
+      prices = or-none priceOf
+
+  pub same-answer : subBlockAnswer s ≡ subBlockAnswer t
+  same-answer =
+      answer-whole s
+      ∙ (λ i. outcome (verdict-same i) (share-same Y i) (share-same U i) (share-same «V» i))
+      ∙ sym (answer-whole t)
+
+  -- ---- the buffer
+  levels-same : (k : Component) → runs k s ≡ true → levels k s ≡ levels k t
+  unfolding levels
+  levels-same k h = λ i. cond (same .run k i) (quantised (quant-same k h i)) (same .residuals k h i)
+
+  pub same-left : (k : Component) → runs k s ≡ true → leftIn k s ≡ leftIn k t
+  same-left k h = by (subBlockVerdict s) refl
+    where
+      by : (v : Verdict) → subBlockVerdict s ≡ v → leftIn k s ≡ leftIn k t
+      by accepted e = left-is s e k ∙ levels-same k h ∙ sym (left-is t (sym verdict-same ∙ e) k)
+      by (refused n c) e = refused-left s n c e k ∙ same .residuals k h ∙ sym (refused-left t n c (sym verdict-same ∙ e) k)
+
+  pub same-surplus : behind s (s .buffer) ≡ behind t (t .buffer) → behind s (subBlockBuffer s) ≡ behind t (subBlockBuffer t)
+  same-surplus e = surplus-stays s ∙ e ∙ sym (surplus-stays t)
