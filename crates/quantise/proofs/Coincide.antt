@@ -1,13 +1,12 @@
 -- Any two outcomes that the contract of `quant_nnz` allows coincide.
 -- Assumes nothing.
-use mathlib.Core.Path.{_≡_, refl, ap}
+use mathlib.Core.Path.{_≡_, ap}
 use mathlib.Core.Bool.{Bool}
 use mathlib.Core.List.{List}
 use Prim.Native.Nat.{ℕ}
 use native.Mathlib.Omega.{arith}
 use lib.IntN.{ℤ}
 use Rattle.refusals.specs.declared.Component.{Component}
-use Rattle.refusals.specs.Numbers.{numberOf, componentOf}
 use Rattle.refusals.proofs.Coincide.{number-tells, component-tells, coincide}
 use Rattle.price.specs.declared.Costs.{Costs}
 use Rattle.price.specs.declared.Settings.{Settings}

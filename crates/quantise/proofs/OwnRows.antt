@@ -10,7 +10,6 @@ use Rattle.refusals.specs.declared.Component.{Component}
 use Rattle.price.specs.declared.Costs.{Costs}
 use Rattle.price.specs.declared.Settings.{Settings}
 use Rattle.price.specs.Costs.{Rows, entry, runRow, rate}
-use Rattle.price.specs.Rule.{Rule}
 use Rattle.quantise.specs.Block.{Quant, coding, rowsOf, scaleHere, shiftHere, sideOf, lambdaHere, ruleOf, blockPlaces, scanned, places, isSkipped, magnitudes, countOf, priceOf, quantised}
 
 -- the pair of a row is the same

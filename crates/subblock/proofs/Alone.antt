@@ -15,7 +15,6 @@ use lib.IntN.{ℤ}
 use Rattle.refusals.specs.declared.Component.{Component}
 use Rattle.refusals.specs.declared.Component.the-variants.{Y, U, «V»}
 use Rattle.refusals.specs.Faults.{outside, Verdict, accepted, refused, verdict}
-use Rattle.transform.specs.Coefficients.{coefficients}
 use Rattle.transform.specs.Call.{places, transVerdict, transBuffer}
 use Rattle.transform.proofs.Bounds.{coefficients-long, none-is-least}
 use Rattle.quantise.specs.Block as block
@@ -25,7 +24,7 @@ use Rattle.subblock.specs.Call.{SubBlock, runs, settingsOf, sideOf, area
 use Rattle.subblock.specs.Tested.{lateFaults, EarlyPassed}
 use Rattle.subblock.proofs.OneComponent.{side-high, side-inside, block-accepted, block-leaves}
 use Rattle.subblock.proofs.ThreeParts.{quantised-length}
-use Rattle.subblock.proofs.Late.{lateOf, alone-late}
+use Rattle.subblock.proofs.Late.{alone-late}
 use Rattle.subblock.proofs.Accepted.{sides-fine, qp-fine, lambda-fine, costs-fine, long-enough, residuals-tame, early-passed, late-passed}
 use Rattle.subblock.proofs.Whole.{answer-alone, buffer-alone, answer-whole, buffer-whole, refused-leaves}
 

@@ -1,11 +1,10 @@
 -- Any two outcomes that the contract of `sub_block_tq` allows coincide.
 -- Assumes nothing.
-use mathlib.Core.Path.{_≡_, refl, ap}
+use mathlib.Core.Path.{_≡_, ap}
 use mathlib.Core.List.{List}
 use Prim.Native.Nat.{ℕ}
 use native.Mathlib.Omega.{arith}
 use lib.IntN.{ℤ}
-use Rattle.refusals.specs.Numbers.{numberOf, componentOf}
 use Rattle.refusals.proofs.Coincide.{number-tells, component-tells, coincide}
 use Rattle.quantise.specs.declared.Coded.{Coded}
 use Rattle.quantise.proofs.Coincide.{coded-tells}

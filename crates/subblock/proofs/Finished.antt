@@ -1,7 +1,7 @@
 -- The end of the three-component call: from what the three components answered and left in their room to the definition's answer and
 -- buffer.
 -- Assumes nothing.
-use mathlib.Core.Path.{_≡_, refl, sym, ap, subst, _∙_}
+use mathlib.Core.Path.{_≡_, sym, ap, subst, _∙_}
 use mathlib.Core.List.{List, _++_}
 use Prim.Native.Nat.{ℕ, _+_, _-_, _/_}
 use native.Mathlib.Omega.{arith}
@@ -16,7 +16,7 @@ use Rattle.quantise.specs.declared.Coded.{Coded}
 use Rattle.subblock.specs.declared.Request.{Request}
 use Rattle.subblock.specs.declared.SubBlockAnswer.{SubBlockAnswer}
 use Rattle.subblock.specs.declared.SubBlockAnswer.the-variants as answers
-use Rattle.subblock.specs.Call.{SubBlock, requested, Share, shareOf, share, coded, refusedWith, outcome, stretch, subBlockVerdict, subBlockAnswer, subBlockBuffer, paperOf}
+use Rattle.subblock.specs.Call.{SubBlock, requested, Share, shareOf, share, refusedWith, outcome, stretch, subBlockVerdict, subBlockAnswer, subBlockBuffer, paperOf}
 use Rattle.subblock.specs.Tested.{settingsFaults, bufferFaults, Sizes, EarlyPassed}
 use Rattle.subblock.specs.Parts.{Ready, partAnswer, partLeft, residuals, AllReady, joined, Parted}
 use Rattle.subblock.proofs.Passed.{room, stretch-is, all-ready}

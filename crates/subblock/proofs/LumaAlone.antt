@@ -4,9 +4,11 @@
 -- Assumes nothing.
 use mathlib.Core.Path.{_≡_, refl, sym, ap, _∙_}
 use mathlib.Core.Bool.{Bool, true, false, cond}
+use mathlib.Core.List.{List}
 use Prim.Native.Nat.{ℕ, _+_, _<_}
 use lib.Dec.{lit≤}
 use lib.ListN.{getD}
+use lib.IntN.{ℤ}
 use Rattle.refusals.specs.declared.Component.the-variants.{Y}
 use Rattle.transform.specs.Coefficients.{coefficients}
 use Rattle.price.specs.declared.Costs.{Costs}
@@ -56,8 +58,11 @@ luma-rows intraCoded a b same =
 
 module _ (s t : SubBlock) (same : SameLuma s t) where
   -- luma's call by the cost tables of either
+  abbrev luma : List ℤ
+  luma = coefficients (stretch Y t) (t .lw) (t .lh)
+
   abbrev by : Costs → Quant
-  by c = coding (coefficients (stretch Y t) (t .lw) (t .lh)) (t .lw) (t .lh) Y (t .y) (t .intraSlice) (t .intraCoded) c
+  by c = coding luma (t .lw) (t .lh) Y (t .y) (t .intraSlice) (t .intraCoded) c
 
   moved : quantOf Y s ≡ by (s .costs)
   unfolding quantOf transOf
@@ -81,17 +86,17 @@ module _ (s t : SubBlock) (same : SameLuma s t) where
   counts : countOf (quantOf Y s) ≡ countOf (quantOf Y t)
   counts =
       luma-by countOf
-      (own.count-same (coefficients (stretch Y t) (t .lw) (t .lh)) (t .lw) (t .lh) Y (t .y) (t .intraSlice) (t .intraCoded) (s .costs) (t .costs) rows)
+      (own.count-same luma (t .lw) (t .lh) Y (t .y) (t .intraSlice) (t .intraCoded) (s .costs) (t .costs) rows)
 
   prices : priceOf (quantOf Y s) ≡ priceOf (quantOf Y t)
   prices =
       luma-by priceOf
-      (own.price-same (coefficients (stretch Y t) (t .lw) (t .lh)) (t .lw) (t .lh) Y (t .y) (t .intraSlice) (t .intraCoded) (s .costs) (t .costs) rows)
+      (own.price-same luma (t .lw) (t .lh) Y (t .y) (t .intraSlice) (t .intraCoded) (s .costs) (t .costs) rows)
 
   written : quantised (quantOf Y s) ≡ quantised (quantOf Y t)
   written =
       luma-by quantised
-      (own.levels-same (coefficients (stretch Y t) (t .lw) (t .lh)) (t .lw) (t .lh) Y (t .y) (t .intraSlice) (t .intraCoded) (s .costs) (t .costs) rows)
+      (own.levels-same luma (t .lw) (t .lh) Y (t .y) (t .intraSlice) (t .intraCoded) (s .costs) (t .costs) rows)
 
   luma-share : share Y s ≡ share Y t
   unfolding share count price

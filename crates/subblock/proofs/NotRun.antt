@@ -5,8 +5,7 @@
 use mathlib.Core.Path.{_≡_, refl, sym, ap, _∙_}
 use mathlib.Core.Bool.{Bool, true, false, cond, _&&_, _||_}
 use mathlib.Core.List.{List, _∷_}
-use Prim.Native.Nat.{ℕ, _*_, _/_}
-use lib.Dec.{ltb}
+use Prim.Native.Nat.{ℕ}
 use lib.ListN.{length}
 use Rattle.refusals.specs.declared.Component.{Component}
 use Rattle.refusals.specs.declared.Component.the-variants.{Y, U, «V»}
@@ -33,12 +32,6 @@ pub record SameWhereRun (s t : SubBlock) : Type 0 where
   pub settings : (k : Component) → runs k s ≡ true → settingsOf k s ≡ settingsOf k t
   pub residuals : (k : Component) → runs k s ≡ true → stretch k s ≡ stretch k t
 
--- what counts only where something is run
-only-run : {A : Type 0} (pick : Bool → A → A) → ((x y : A) → pick false x ≡ pick false y) → (a b : Bool) (x y : A) → a ≡ b
-    → (a ≡ true → x ≡ y) → pick a x ≡ pick b y
-only-run pick idle true b x y e h = ap (pick true) (h refl) ∙ ap (λ (c : Bool). pick c y) e
-only-run pick idle false b x y e h = idle x y ∙ ap (λ (c : Bool). pick c y) e
-
 module _ (s t : SubBlock) (same : SameWhereRun s t) where
   trans-same : (k : Component) → runs k s ≡ true → transOf k s ≡ transOf k t
   unfolding transOf
@@ -54,24 +47,23 @@ module _ (s t : SubBlock) (same : SameWhereRun s t) where
       (same .coded i)
       (same .costs i)
 
+  -- what is taken of a component only where it is run
+  where-run : {A I : Type 0} (pick : Bool → A → A) → ((x y : A) → pick false x ≡ pick false y) → (k : Component) (of : I → A) (i j : I)
+      → (runs k s ≡ true → i ≡ j) → pick (runs k s) (of i) ≡ pick (runs k t) (of j)
+  where-run {A} {I} pick idle k of i j h = by (runs k s) refl ∙ ap (λ (b : Bool). pick b (of j)) (same .run k)
+    where
+      by : (b : Bool) → runs k s ≡ b → pick b (of i) ≡ pick b (of j)
+      by true e = ap (λ (x : I). pick true (of x)) (h e)
+      by false e = idle (of i) (of j)
+
   -- ---- the faults
   trans-alike : (k : Component) (f : Fault Trans) {fs : List (Fault SubBlock)} → Alike s t fs → Alike s t (inTrans k f ∷ fs)
   unfolding inTrans
-  trans-alike k f r =
-      next
-      (only-run (λ b x. b && x) (λ x y. refl) (runs k s) (runs k t) (f .holds (transOf k s)) (f .holds (transOf k t)) (same .run k)
-      (λ h. ap (f .holds) (trans-same k h)))
-      refl
-      r
+  trans-alike k f r = next (where-run (λ b x. b && x) (λ x y. refl) k (f .holds) (transOf k s) (transOf k t) (trans-same k)) refl r
 
   quant-alike : (k : Component) (f : Fault Quant) {fs : List (Fault SubBlock)} → Alike s t fs → Alike s t (inQuant k f ∷ fs)
   unfolding inQuant
-  quant-alike k f r =
-      next
-      (only-run (λ b x. b && x) (λ x y. refl) (runs k s) (runs k t) (f .holds (quantOf k s)) (f .holds (quantOf k t)) (same .run k)
-      (λ h. ap (f .holds) (quant-same k h)))
-      refl
-      r
+  quant-alike k f r = next (where-run (λ b x. b && x) (λ x y. refl) k (f .holds) (quantOf k s) (quantOf k t) (quant-same k)) refl r
 
   late-alike : (k : Component) {fs : List (Fault SubBlock)} → Alike s t fs
       → Alike s t (inQuant k quant.levelFault ∷ inQuant k quant.priceFault ∷ inQuant k quant.distortionFault ∷ fs)
@@ -99,20 +91,12 @@ module _ (s t : SubBlock) (same : SameWhereRun s t) where
   verdict-same = same-verdict s t subBlockFaults alike
 
   -- ---- the answer
+  or-none : (k : Component) (of : Quant → ℕ) → cond (runs k s) (of (quantOf k s)) 0 ≡ cond (runs k t) (of (quantOf k t)) 0
+  or-none k of = where-run (λ b n. cond b n 0) (λ x y. refl) k of (quantOf k s) (quantOf k t) (quant-same k)
+
   share-same : (k : Component) → share k s ≡ share k t
   unfolding share count price
-  share-same k = λ i. record { count = counts i; price = prices i }
-    where
-      or-none : (of : Quant → ℕ) → cond (runs k s) (of (quantOf k s)) 0 ≡ cond (runs k t) (of (quantOf k t)) 0
-      or-none of =
-          only-run (λ b n. cond b n 0) (λ x y. refl) (runs k s) (runs k t) (of (quantOf k s)) (of (quantOf k t)) (same .run k)
-          (λ h. ap of (quant-same k h))
-
-      counts : cond (runs k s) (countOf (quantOf k s)) 0 ≡ cond (runs k t) (countOf (quantOf k t)) 0
-      counts = or-none countOf
-
-      prices : cond (runs k s) (priceOf (quantOf k s)) 0 ≡ cond (runs k t) (priceOf (quantOf k t)) 0
-      prices = or-none priceOf
+  share-same k = λ i. record { count = or-none k countOf i; price = or-none k priceOf i }
 
   pub same-answer : subBlockAnswer s ≡ subBlockAnswer t
   same-answer =

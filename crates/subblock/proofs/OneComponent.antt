@@ -1,13 +1,12 @@
 -- One component that is run: its transform is accepted and leaves its coefficients, so that the quantiser's call is the definition's.
 -- Assumes nothing.
-use mathlib.Core.Path.{_≡_, refl, sym, ap, _∙_, subst}
-use mathlib.Core.Bool.{Bool, true, false, _||_}
-use mathlib.Core.List.{List, [], _++_, append-nil}
-use Prim.Native.Nat.{ℕ, zero, suc, _-_, _*_, _^_, _≤_}
+use mathlib.Core.Path.{_≡_, sym, ap, _∙_, subst}
+use mathlib.Core.Bool.{true, false}
+use mathlib.Core.List.{List, _++_, append-nil}
+use Prim.Native.Nat.{ℕ, _≤_}
 use native.Mathlib.Omega.{arith}
 use borrow.Author.Tests.{le-ltb}
-use lib.Dec.{ltb}
-use lib.ListN.{length, take, drop}
+use lib.ListN.{length, drop}
 use lib.Seq.{take-all, drop-length}
 use lib.IntN.{ℤ}
 use Rattle.integers.specs.Tests.{some}
@@ -19,7 +18,7 @@ use Rattle.transform.specs.Coefficients.{coefficients}
 use Rattle.transform.specs.Call.{Trans, wild, places, sideFault, lengthFault, sampleFault, transFaults, transVerdict, transBuffer, transformed}
 use Rattle.transform.specs.Call as trans
 use Rattle.price.specs.declared.Settings.{Settings}
-use Rattle.quantise.specs.Block.{Quant, coding, called}
+use Rattle.quantise.specs.Block.{called}
 use Rattle.subblock.specs.declared.Request.{Request}
 use Rattle.subblock.specs.Call.{bit, sideOf}
 use Rattle.subblock.specs.Tested.{setOf}

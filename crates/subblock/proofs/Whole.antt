@@ -4,15 +4,14 @@
 use mathlib.Core.Path.{_≡_, refl, sym, ap, _∙_}
 use mathlib.Core.Bool.{Bool, true, false, cond}
 use mathlib.Core.List.{List, _++_, append-assoc}
-use Prim.Native.Nat.{ℕ, _+_, _*_, _/_, _^_, _≤_}
+use Prim.Native.Nat.{ℕ, _+_, _*_, _/_, _^_}
 use native.Mathlib.Omega.{arith}
-use lib.ListN.{length, take, drop}
+use lib.ListN.{drop}
 use lib.IntN.{ℤ}
 use Rattle.refusals.specs.declared.Component.{Component}
 use Rattle.refusals.specs.declared.Component.the-variants.{Y, U, «V»}
 use Rattle.refusals.specs.Faults.{Verdict, accepted, refused, verdict}
 use Rattle.refusals.proofs.First.{orElse}
-use Rattle.transform.specs.Coefficients.{coefficients}
 use Rattle.transform.proofs.Bounds.{coefficients-long, none-is-least}
 use Rattle.quantise.specs.Block.{Quant, coding, area, countOf, priceOf, quantised}
 use Rattle.quantise.specs.Call as quant
@@ -20,7 +19,7 @@ use Rattle.subblock.specs.declared.Request.{Request}
 use Rattle.subblock.specs.Call.{SubBlock, requested, bit, runs, stretch, start, transOf, quantOf, count, price, Share, share, Outcome, coded, outcome, levels, codedBuffer, subBlockVerdict, subBlockAnswer, subBlockBuffer}
 use Rattle.subblock.specs.Call as three
 use Rattle.subblock.specs.Tested.{settingsFaults, bufferFaults, lateFaults, Sizes}
-use Rattle.subblock.specs.Parts.{sideIn, quantIn, Ready, partAnswer, partLeft, residuals, joined}
+use Rattle.subblock.specs.Parts.{sideIn, quantIn, Ready, partAnswer, partLeft, joined}
 use Rattle.subblock.proofs.OneComponent.{side-high, side-inside}
 use Rattle.subblock.proofs.Late.{lateOf, verdict-in-groups, alone-late}
 use Rattle.subblock.proofs.Accepted.{late-passed}
@@ -85,10 +84,6 @@ module _ (b : List ℤ) (q : Request) where
   quant-is Y = refl
   quant-is U = refl
   quant-is «V» = refl
-
-  runs-is : (k : Component) → runs k s ≡ bit k (q .run)
-  unfolding runs requested
-  runs-is k = refl
 
   part-answer : (k : Component) → Ready k q (stretch k s)
       → partAnswer k q (stretch k s) ≡ quant.outcome (lateOf k s) (count k s) (price k s)

@@ -5,7 +5,6 @@ use mathlib.Core.List.{List}
 use Prim.Native.Nat.{ℕ}
 use native.Mathlib.Omega.{arith}
 use lib.IntN.{ℤ}
-use Rattle.refusals.specs.Numbers.{numberOf}
 use Rattle.refusals.proofs.Coincide.{number-tells, coincide}
 use Rattle.transform.specs.declared.TransAnswer.{TransAnswer}
 use Rattle.transform.specs.declared.TransAnswer.the-variants.{Accepted, Refused}
