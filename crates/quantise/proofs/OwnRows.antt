@@ -37,14 +37,14 @@ module _ (buffer : List ℤ) (lw lh : ℕ) (k : Component) (s : Settings) (slice
   rule-same : ruleOf (by a) ≡ ruleOf (by b)
   unfolding ruleOf coding scaleHere shiftHere sideOf lambdaHere
   rule-same = λ i. record {
-      top = ruleOf (by a) .top;
-      dist = ruleOf (by a) .dist;
-      rate = λ z n. lambdaHere (by a) * rate-same 32768 (rowsOf k coded) a b same z n i;
-      coded = lambdaHere (by a) * same .cbf .1 i;
-      empty = lambdaHere (by a) * same .cbf .0 i;
-      more = lambdaHere (by a) * same .last .0 i;
-      last = lambdaHere (by a) * same .last .1 i;
-    }
+    top = ruleOf (by a) .top;
+    dist = ruleOf (by a) .dist;
+    rate = λ z n. lambdaHere (by a) * rate-same 32768 (rowsOf k coded) a b same z n i;
+    coded = lambdaHere (by a) * same .cbf .1 i;
+    empty = lambdaHere (by a) * same .cbf .0 i;
+    more = lambdaHere (by a) * same .last .0 i;
+    last = lambdaHere (by a) * same .last .1 i;
+  }
 
   places-same : places (by a) ≡ places (by b)
   unfolding places scanned blockPlaces scaleHere coding
