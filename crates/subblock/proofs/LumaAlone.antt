@@ -27,6 +27,7 @@ pub record SameLumaCosts (a b : Costs) : Type 0 where
   pub last : (i : ℕ) → i < 2 → getD (a .last) i 0 ≡ getD (b .last) i 0
   pub cbf : (i : ℕ) → i < 4 → getD (a .cbf) i 0 ≡ getD (b .cbf) i 0
 
+-- of the run mask only bit 0 counts, and of the buffer only luma's stretch
 pub record SameLuma (s t : SubBlock) : Type 0 where
   pub lw : s .lw ≡ t .lw
   pub lh : s .lh ≡ t .lh
@@ -57,10 +58,10 @@ luma-rows intraCoded a b same =
     cbf false = (same .cbf 0 (lit≤ tt), same .cbf 1 (lit≤ tt))
 
 module _ (s t : SubBlock) (same : SameLuma s t) where
-  -- luma's call by the cost tables of either
   abbrev luma : List ℤ
   luma = coefficients (stretch Y t) (t .lw) (t .lh)
 
+  -- luma's call by the cost tables of either
   abbrev by : Costs → Quant
   by c = coding luma (t .lw) (t .lh) Y (t .y) (t .intraSlice) (t .intraCoded) c
 
@@ -98,11 +99,11 @@ module _ (s t : SubBlock) (same : SameLuma s t) where
       luma-by quantised
       (own.levels-same luma (t .lw) (t .lh) Y (t .y) (t .intraSlice) (t .intraCoded) (s .costs) (t .costs) rows)
 
-  luma-share : share Y s ≡ share Y t
+  pub luma-share : share Y s ≡ share Y t
   unfolding share count price
   luma-share = λ i. record { count = cond (same .run i) (counts i) 0; price = cond (same .run i) (prices i) 0 }
 
-  luma-levels : levels Y s ≡ levels Y t
+  pub luma-levels : levels Y s ≡ levels Y t
   unfolding levels
   luma-levels = λ i. cond (same .run i) (written i) (same .residuals i)
 
