@@ -14,6 +14,7 @@ use lib.IntN.{ℤ, pos, natAbs}
 use borrow.Author.Tests.{leb-true}
 use Rattle.integers.specs.Sum.{at}
 use Rattle.integers.proofs.Order.{below-or-not}
+use Rattle.integers.proofs.Lists.{map-at}
 use Rattle.tables.specs.Scan.{scan, square}
 use Rattle.tables.proofs.OneToOne.{scan-length, square-length}
 use Rattle.price.specs.Level.{scaled, magnitude}
@@ -28,7 +29,6 @@ use Rattle.quantise.specs.declared.prices.Prices.{Prices}
 use Rattle.quantise.specs.declared.walk.Walk.{Walk}
 use Rattle.quantise.specs.Block.{signs}
 use Rattle.quantise.specs.Code.{Fine, ruleBy, totalsOf, keptOf, keptPlaces, Scanned, Begins, Standing, CutOver, inOrder, placesBy, Codable, CodedAs}
-use Rattle.quantise.proofs.Lists.{map-at}
 use Rattle.quantise.proofs.Steps.{allowed-below}
 use Rattle.quantise.proofs.Reaching.{magnitude-of-0}
 use Rattle.quantise.proofs.Keeping.{kept-some, kept-places, same-walk, same-walked, kept-uncoded}
@@ -143,8 +143,8 @@ module _ (p : Prices) (g : Scale) (side : ℕ) (block : List ℤ) (d : ℕ) (hel
         let n : length ps ≡ side * side = length-map zs (λ z. scaled (g .q) z) ∙ length-map (scan side side) (λ k. at block k) ∙ sc .full in
         let m : length zs ≡ side * side = length-map (scan side side) (λ k. at block k) ∙ sc .full in
         let e : getD ps k 0 ≡ scaled (g .q) (at block (getD (scan side side) k 0)) =
-        map-at (λ z. scaled (g .q) z) zs k (pos 0) 0 (omega arith)
-        ∙ ap (λ (z : ℤ). scaled (g .q) z) (map-at (λ k. at block k) (scan side side) k 0 (pos 0) (omega (arith, sc .full))) in
+        map-at (pos 0) 0 (λ z. scaled (g .q) z) zs k (omega arith)
+        ∙ ap (λ (z : ℤ). scaled (g .q) z) (map-at 0 (pos 0) (λ k. at block k) (scan side side) k (omega (arith, sc .full))) in
         let a = allowed-below _ _ (written-zero-or-m-or-m-1 r ps k (omega arith)) in
         omega (arith, c .fine (getD (scan side side) k 0) .level, ap (magnitude (g .shift)) e)
 

@@ -13,6 +13,7 @@ use lib.Seq.{ext-getD}
 use lib.IntN.{ℤ, pos, natAbs}
 use borrow.Author.Tests.{leb-false, le-leb, lt-leb}
 use Rattle.integers.specs.Sum.{at}
+use Rattle.integers.proofs.Lists.{map-at}
 use Rattle.tables.specs.Scan.{scan, scanAt}
 use Rattle.tables.proofs.OneToOne.{scan-inside}
 use Rattle.price.specs.Level.{scaled, magnitude, distortion}
@@ -26,7 +27,6 @@ use Rattle.price.proofs.Bounds.{step-within}
 use Rattle.quantise.specs.declared.scale.Scale.{Scale}
 use Rattle.quantise.specs.declared.prices.Prices.{Prices}
 use Rattle.quantise.specs.Code.{Sound, Modest, ruleBy, rateBy, keptOf, keptPlaces, Scanned, inOrder}
-use Rattle.quantise.proofs.Lists.{map-at}
 use Rattle.quantise.proofs.Reaching.{magnitude-of-0}
 use Rattle.quantise.proofs.Weighing.{quiet}
 
@@ -156,8 +156,8 @@ kept-places g side held sc block kept h =
     (λ k l.
     let i : k < length (scan side side) = omega (arith, length-map (scan side side) (λ p. getD kept p 0 * g .q)) in
     let b = scan-inside side side (sc .some) (sc .some) k i in
-    map-at (λ p. getD kept p 0 * g .q) (scan side side) k 0 0 i
+    map-at 0 0 (λ p. getD kept p 0 * g .q) (scan side side) k i
     ∙ ap (λ (a : ℕ). a * g .q) (h (scanAt side side k) b)
     ∙ sym
-    (map-at (λ z. keptOf g z * g .q) (inOrder side block) k (pos 0) 0 (omega (arith, length-map (scan side side) (λ p. at block p)))
-    ∙ ap (λ (z : ℤ). keptOf g z * g .q) (map-at (λ p. at block p) (scan side side) k 0 (pos 0) i)))
+    (map-at (pos 0) 0 (λ z. keptOf g z * g .q) (inOrder side block) k (omega (arith, length-map (scan side side) (λ p. at block p)))
+    ∙ ap (λ (z : ℤ). keptOf g z * g .q) (map-at 0 (pos 0) (λ p. at block p) (scan side side) k i)))

@@ -1,20 +1,14 @@
--- Lists by their entries: a mapped list, a list of zeros, and what holds of each coefficient of a block holds of those of a part. Assumes nothing.
+-- Lists by their entries: a list of zeros, and what holds of each coefficient of a block holds of those of a part. Assumes nothing.
 use mathlib.Core.Path.{_≡_, refl, sym, subst, _∙_}
 use mathlib.Core.Logic.{⊎-elim}
-use mathlib.Core.List.{List, [], _∷_, map}
-use Prim.Native.Nat.{ℕ, zero, suc, _+_, _-_, _≤_, _<_}
-use native.Mathlib.Nat.{not-suc-le-zero, le-of-suc-le-suc}
+use mathlib.Core.List.{List}
+use Prim.Native.Nat.{ℕ, zero, suc, _+_, _≤_, _<_}
 use native.Mathlib.Omega.{arith}
 use lib.ListN.{length, getD, take, drop, replicate, length-take, List·getD-eq-default}
 use lib.Seq.{getD-take, getD-drop}
 use lib.IntN.{ℤ, pos, natAbs}
 use Rattle.integers.proofs.Order.{below-or-not}
 use Rattle.quantise.specs.Code.{Within}
-
-pub map-at : {A B : Type 0} (f : A → B) (l : List A) (n : ℕ) (d : A) (e : B) → n < length l → getD (map f l) n e ≡ f (getD l n d)
-map-at f [] n d e h = absurd (not-suc-le-zero h)
-map-at f (x ∷ xs) zero d e h = refl
-map-at f (x ∷ xs) (suc n) d e h = map-at f xs n d e (le-of-suc-le-suc h)
 
 pub cleared : (n m k : ℕ) → getD {A = ℕ} (take n (replicate m 0)) k 0 ≡ 0
 cleared zero m k = refl

@@ -13,6 +13,7 @@ use lib.Seq.{getD-set-same, getD-set-other, ext-getD, take-all}
 use lib.IntN.{ℤ, pos}
 use Rattle.integers.specs.Sum.{at, over, onℕ}
 use Rattle.integers.proofs.Sums.{nats}
+use Rattle.integers.proofs.Lists.{map-at}
 use Rattle.tables.specs.Scan.{scan, scanAt}
 use Rattle.tables.proofs.Order.{scan-hit, scan-over}
 use Rattle.price.specs.Level.{signed}
@@ -20,7 +21,6 @@ use Rattle.price.specs.Rule.{isZero}
 use Rattle.price.specs.Price.{nonzeros}
 use Rattle.quantise.specs.Block.{signs, laid}
 use Rattle.quantise.specs.Code.{Scanned, Standing, inOrder}
-use Rattle.quantise.proofs.Lists.{map-at}
 use Rattle.quantise.proofs.Laid.{laid-length, laid-on-scan}
 
 -- ---- the count
@@ -102,7 +102,7 @@ module _ (side : ℕ) (held : List ℕ) (sc : Scanned side held) (ls : List ℕ)
       (length-map (scan side side) (λ p. getD levels p 0) ∙ sc .full ∙ sym long)
       (λ k l.
       let h : k < side * side = omega (arith, length-map (scan side side) (λ p. getD levels p 0), sc .full) in
-      map-at (λ p. getD levels p 0) (scan side side) k 0 0 (omega (arith, sc .full)) ∙ s k h)
+      map-at 0 0 (λ p. getD levels p 0) (scan side side) k (omega (arith, sc .full)) ∙ s k h)
 
   pub same-count : nonzeros levels ≡ nonzeros ls
   same-count =
@@ -144,7 +144,7 @@ module _ (side : ℕ) (held : List ℕ) (sc : Scanned side held) (ls : List ℕ)
           let i = Rattle.tables.proofs.OneToOne.scan-inside side side (sc .some) (sc .some) k (omega (arith, sc .full)) in
           signs-at block levels (scanAt side side k) (omega arith) (omega arith)
           ∙ ap (λ (a : ℕ). signed (at block (scanAt side side k)) a) (s k h)
-          ∙ ap (λ (z : ℤ). signed z (getD ls k 0)) (sym (map-at (λ p. at block p) (scan side side) k 0 (pos 0) (omega (arith, sc .full))))
+          ∙ ap (λ (z : ℤ). signed z (getD ls k 0)) (sym (map-at 0 (pos 0) (λ p. at block p) (scan side side) k (omega (arith, sc .full))))
           ∙ sym (signs-at (inOrder side block) ls k (omega (arith, coefficients)) (omega (arith, coefficients)))
           ∙ sym
           (laid-on-scan side side (sc .some) (sc .some) vs block k

@@ -13,6 +13,7 @@ use lib.ListN.{length, getD, set, take, drop, length-set, length-map}
 use lib.Seq.{getD-set-same, getD-set-other, take-all, drop-cons}
 use borrow.Author.Tests.{ltb-true, ltb-false, eqb-true, eqb-false, lt-ltb, le-ltb, le-leb, lt-leb}
 use Rattle.integers.proofs.Order.{below-or-not}
+use Rattle.integers.proofs.Lists.{map-at}
 use Rattle.tables.specs.Scan.{scan, scanAt}
 use Rattle.tables.proofs.OneToOne.{scan-inside, scan-apart}
 use Rattle.price.specs.Level.{magnitude, distortion}
@@ -28,7 +29,6 @@ use Rattle.quantise.specs.declared.prices.Prices.{Prices}
 use Rattle.quantise.specs.declared.walk.Walk.{Walk}
 use Rattle.quantise.specs.declared.walk.Walked.{Walked}
 use Rattle.quantise.specs.Code.{ruleBy, rateBy, totalsOf, passed, Ready, keptPlaces, Scanned, Begins, Standing, Cleared, WalkedOver, CutBehind, CutOver}
-use Rattle.quantise.proofs.Lists.{map-at}
 use Rattle.quantise.proofs.Reaching.{magnitude-of-0}
 use Rattle.quantise.proofs.Weighing.{quiet}
 
@@ -77,7 +77,7 @@ module _ (p : Prices) (g : Scale) (w₀ : Walk) (side : ℕ) (kept held : List �
 
   place-at : (n : ℕ) → n < side * side → getD ps n 0 ≡ keptAt n * g .q
   unfolding scanAt
-  place-at n h = map-at (λ k. getD kept k 0 * g .q) (scan side side) n 0 0 (omega (arith, sc .full))
+  place-at n h = map-at 0 0 (λ k. getD kept k 0 * g .q) (scan side side) n (omega (arith, sc .full))
 
   next : (n : ℕ) → n < side * side → total (n + 1) ≡ step r n (total n) (keptAt n * g .q)
   next n h =

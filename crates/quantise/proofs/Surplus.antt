@@ -14,6 +14,7 @@ use lib.IntN.{ℤ, pos, negsuc}
 use borrow.Author.Tests.{le-ltb}
 use Rattle.integers.specs.Sum.{at}
 use Rattle.integers.specs.Tests.{some, eqℤ}
+use Rattle.integers.proofs.Lists.{map-at}
 use Rattle.tables.specs.Scan.{scan, scanAt}
 use Rattle.tables.proofs.OneToOne.{scan-inside}
 use Rattle.refusals.specs.declared.Component.{Component}
@@ -25,7 +26,6 @@ use Rattle.price.specs.Level.{scaled, magnitude, threshold}
 use Rattle.price.specs.Price.{nonzeros}
 use Rattle.quantise.specs.Block.{Quant, called, area, scaleHere, shiftHere, lambdaHere, ruleOf, blockPlaces, scanned, places, isSkipped, largest, magnitudes, signs, laid, countOf, priceOf, quantised}
 use Rattle.quantise.specs.Call.{sideFault, qpFault, lambdaFault, costFault, lengthFault, sampleFault, largestHere, levelFault, priceFault, uncodedHere, distortionFault, quantFaults, quantVerdict, quantAnswer, quantBuffer}
-use Rattle.quantise.proofs.Lists.{map-at}
 
 -- values laid in front
 laid-front : (ps : List ℕ) (vs l r : List ℤ) → ((n : ℕ) → n < length ps → getD ps n 0 < length l) → laid ps vs (l ++ r) ≡ laid ps vs l ++ r
@@ -57,9 +57,9 @@ module _ (B : List ℤ) (l : ℕ) (k : Component) (s : Settings) (i j : Bool) (t
       (length-map sc (λ p. at (take n B) p) ∙ sym (length-map sc (λ p. at B p)))
       (λ m h.
       let q : m < length sc = omega (arith, length-map sc (λ p. at (take n B) p)) in
-      map-at (λ p. at (take n B) p) sc m 0 (pos 0) q
+      map-at 0 (pos 0) (λ p. at (take n B) p) sc m q
       ∙ getD-take n B (getD sc m 0) (pos 0) (inside m q)
-      ∙ sym (map-at (λ p. at B p) sc m 0 (pos 0) q))
+      ∙ sym (map-at 0 (pos 0) (λ p. at B p) sc m q))
 
   places-same : places part ≡ places all-of
   unfolding places scaleHere called
@@ -128,9 +128,9 @@ module _ (B : List ℤ) (l : ℕ) (k : Component) (s : Settings) (i j : Bool) (t
       ∙ sym (laid-front sc vs (take n B) (drop n B) (λ m h. omega (arith, inside m h, length-take-le n B room)))
       ∙ ap (laid sc vs) (take-append-drop n B)
 
-  pub surplus-unchanged : quantBuffer part ++ drop n B ≡ quantBuffer all-of
+  pub surplus-carried : quantBuffer part ++ drop n B ≡ quantBuffer all-of
   unfolding quantBuffer called
-  surplus-unchanged = ap (λ (v : Verdict). ifAccepted v (quantised part) (take n B) ++ drop n B) verdict-same ∙ go (quantVerdict all-of)
+  surplus-carried = ap (λ (v : Verdict). ifAccepted v (quantised part) (take n B) ++ drop n B) verdict-same ∙ go (quantVerdict all-of)
     where
       go : (v : Verdict) → ifAccepted v (quantised part) (take n B) ++ drop n B ≡ ifAccepted v (quantised all-of) B
       go accepted = quantised-same

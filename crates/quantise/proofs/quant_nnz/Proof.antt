@@ -16,7 +16,7 @@ use Rattle.quantise.specs.Block.{Quant, called}
 use Rattle.quantise.specs.Call.{quantFaults, sideFault, qpFault, lambdaFault, costFault, lengthFault, quantAnswer, quantBuffer}
 use Rattle.quantise.proofs.Scaling.{bit}
 use Rattle.quantise.proofs.Answer.{refused-answer, side-low, side-high, side-right, qp-high, qp-right, lambda-test, cost-test, length-low}
-use Rattle.quantise.proofs.Surplus.{surplus-untested, surplus-unchanged}
+use Rattle.quantise.proofs.Surplus.{surplus-untested, surplus-carried}
 use Rattle.quantise.proofs.quant_nnz.Statement.{statement}
 use Rattle.quantise.proofs.quant_nnz.Tie as tie
 
@@ -121,7 +121,7 @@ returns-7 c =
       c .before .code-block .ensures .0 ∙ ap (λ (m : ℕ). quantAnswer (of m)) e ∙ surplus-untested (s .args .block .now) (s .args .log2-side) (s .args .component) (s .args .settings) (s .args .intra-slice) (s .args .intra-coded) (s .args .costs) hi room,
       ap (λ (l : List ℤ). l ++ drop (1 * 2 ^ (2 * s .args .log2-side) % 18446744073709551616) (s .args .block .now)) (c .before .code-block .ensures .1)
           ∙ ap (λ (m : ℕ). quantBuffer (of m) ++ drop m (s .args .block .now)) e
-          ∙ surplus-unchanged (s .args .block .now) (s .args .log2-side) (s .args .component) (s .args .settings) (s .args .intra-slice) (s .args .intra-coded) (s .args .costs) hi room,
+          ∙ surplus-carried (s .args .block .now) (s .args .log2-side) (s .args .component) (s .args .settings) (s .args .intra-slice) (s .args .intra-coded) (s .args .costs) hi room,
     )
 
 pub quant-nnz-spec : {M : Type 1} → statement M
