@@ -2,6 +2,7 @@
 
 pub struct Random(u64);
 
+#[allow(dead_code)] // each program uses some of them
 impl Random {
     pub fn new(seed: u64) -> Random {
         Random(seed | 1)
@@ -22,6 +23,23 @@ impl Random {
         low + self.below((high - low + 1) as u64) as i64
     }
 
+    pub fn yes(&mut self) -> bool {
+        self.below(2) == 1
+    }
+
+    pub fn one<T: Copy>(&mut self, of: &[T]) -> T {
+        of[self.below(of.len() as u64) as usize]
+    }
+
+    pub fn place(&mut self, block: &[i16]) -> usize {
+        self.below(block.len() as u64) as usize
+    }
+
+    /// A magnitude of either sign.
+    pub fn signed(&mut self, magnitude: i128) -> i16 {
+        if self.yes() { magnitude as i16 } else { -magnitude as i16 }
+    }
+
     /// n accepted residuals: the whole range, small ones, the two limits, or mostly zeros.
     pub fn residuals(&mut self, n: usize) -> Vec<i16> {
         let kind = self.below(4);
@@ -36,7 +54,6 @@ impl Random {
     }
 
     /// A part of a label under a flat prediction: dark strokes on light ground, w wide.
-    #[allow(dead_code)]
     pub fn text(&mut self, w: usize, n: usize) -> Vec<i16> {
         let (pitch, width, ink) = (4 + self.below(6) as usize, 1 + self.below(3) as usize, 300 + self.below(500) as i16);
         (0..n)
@@ -49,7 +66,6 @@ impl Random {
     }
 
     /// The same strokes out of focus: each sample the mean of a square of nine.
-    #[allow(dead_code)]
     pub fn soft_text(&mut self, w: usize, n: usize) -> Vec<i16> {
         let (sharp, h) = (self.text(w, n), n / w);
         (0..n)
@@ -63,14 +79,12 @@ impl Random {
     }
 
     /// Light that falls off over the block.
-    #[allow(dead_code)]
     pub fn ramp(&mut self, w: usize, n: usize) -> Vec<i16> {
         let slope = 20 + self.below(60) as i64;
         (0..n).map(|i| ((i % w + i / w) as i64 * slope * 8 / w as i64 - slope * 8 + self.between(-2, 2)) as i16).collect()
     }
 
     /// A blank part of a label: noise alone.
-    #[allow(dead_code)]
     pub fn blank(&mut self, n: usize) -> Vec<i16> {
         (0..n).map(|_| self.between(-2, 2) as i16).collect()
     }

@@ -1,21 +1,48 @@
-//! Document 01's quantiser worked out apart from the library, in 128-bit whole numbers: which call is refused, and what finished levels
-//! cost. It chooses no level: that is what the Rust and the library are held against each other for.
+//! Document 01 worked out apart from the library: the transform as the sum that defines it; of the quantiser the skip, the faults 7
+//! to 9, the levels and what they cost, in 128-bit whole numbers. Slow and plain: it is there to be held against the text.
 
 use galemosu::{Component, Costs};
 
 const SCALES: [i128; 6] = [26214, 23302, 20560, 18396, 16384, 14564];
 
-/// A call that has passed refusals 1 to 6.
-pub struct Call<'a> {
-    pub coefficients: &'a [i16],
-    pub log2_side: usize,
-    pub component: Component,
-    pub qp: u32,
-    /// lambda's whole number
-    pub lambda: i128,
-    pub intra_slice: bool,
-    pub intra_coded: bool,
-    pub costs: &'a Costs,
+/// c(0) to c(31): the first column of T_32.
+const FIRST_COLUMN: [i64; 32] = [
+    64, 90, 90, 90, 89, 88, 87, 85, 84, 82, 80, 78, 75, 73, 70, 67, 64, 61, 57, 54, 50, 47, 43, 39, 35, 30, 26, 22, 18, 13, 9, 4,
+];
+
+/// T_N[k][n] of N = 2^log2.
+fn matrix(log2: usize, k: usize, n: usize) -> i64 {
+    let k = k << (5 - log2);
+    if k == 0 {
+        return 64;
+    }
+    let a = (2 * n + 1) * k % 128;
+    let a = if a > 64 { 128 - a } else { a };
+    if a < 32 { FIRST_COLUMN[a] } else { -FIRST_COLUMN[64 - a] }
+}
+
+/// The coefficients of residuals 2^log2_w wide and 2^log2_h high.
+pub fn transform(residuals: &[i16], log2_w: usize, log2_h: usize) -> Vec<i16> {
+    let (w, h, shift) = (1usize << log2_w, 1usize << log2_h, 7 + log2_w + log2_h);
+    let rows: Vec<i64> = (0..w).flat_map(|u| (0..w).map(move |x| matrix(log2_w, u, x))).collect();
+    let columns: Vec<i64> = (0..h).flat_map(|v| (0..h).map(move |y| matrix(log2_h, v, y))).collect();
+    // along the rows: entry (y, u)
+    let mut along = vec![0i64; w * h];
+    for (i, sum) in along.iter_mut().enumerate() {
+        let (y, u) = (i / w, i % w);
+        *sum = (0..w).map(|x| rows[u * w + x] * residuals[y * w + x] as i64).sum();
+    }
+    let coefficient = |i: usize| {
+        let (v, u) = (i / w, i % w);
+        let sum: i64 = (0..h).map(|y| columns[v * h + y] * along[y * w + u]).sum();
+        ((sum + (1 << (shift - 1))) >> shift) as i16
+    };
+    (0..w * h).map(coefficient).collect()
+}
+
+/// Lambda's whole number, of a lambda that is not refused.
+pub fn whole(lambda: f64) -> i128 {
+    (lambda * 32768.0 + 0.5) as i128
 }
 
 /// The places of a block in scan order: diagonals from the top left, the even ones from left to right, the odd ones from right to left.
@@ -31,12 +58,24 @@ pub fn scan(side: usize) -> Vec<usize> {
     places
 }
 
-impl Call<'_> {
-    fn q(&self) -> i128 {
+/// A block that the quantiser is given, and that has passed refusals 1 to 6.
+pub struct Block<'a> {
+    pub coefficients: &'a [i16],
+    pub log2_side: usize,
+    pub component: Component,
+    pub qp: u32,
+    pub lambda: f64,
+    pub intra_slice: bool,
+    pub intra_coded: bool,
+    pub costs: &'a Costs,
+}
+
+impl Block<'_> {
+    pub fn q(&self) -> i128 {
         SCALES[self.qp as usize % 6]
     }
 
-    fn bits(&self) -> u32 {
+    pub fn bits(&self) -> u32 {
         19 - self.log2_side as u32 + self.qp / 6
     }
 
@@ -44,37 +83,48 @@ impl Call<'_> {
         (coefficient as i128).abs() * self.q()
     }
 
-    /// The squared error of a scaled coefficient coded as magnitude a.
-    fn square(&self, scaled: i128, a: i128) -> i128 {
+    fn rounded(&self, coefficient: i16) -> i128 {
+        (self.scaled(coefficient) + (1 << (self.bits() - 1))) >> self.bits()
+    }
+
+    /// The squared error of a coefficient coded as magnitude a.
+    pub fn square(&self, coefficient: i16, a: i128) -> i128 {
         let scale = (1i128 << (28 + self.log2_side)) / self.q();
-        let error = ((scaled - (a << self.bits())) * scale) >> 20;
+        let error = ((self.scaled(coefficient) - (a << self.bits())) * scale) >> 20;
         error * error
     }
 
-    pub fn skipped(&self) -> bool {
-        let bits = self.bits();
+    /// What a scaled coefficient must reach for the block to be walked.
+    pub fn threshold(&self) -> i128 {
         let offset = if self.intra_slice { 201 } else { 153 };
-        let threshold = (1i128 << bits) - (offset << (bits - 9));
-        self.coefficients.iter().all(|c| self.scaled(*c) < threshold)
+        (1i128 << self.bits()) - (offset << (self.bits() - 9))
     }
 
-    /// Refusals 7, 8 and 9 of a walked block.
-    pub fn late_refusal(&self) -> Option<u32> {
-        if self.skipped() {
-            return None;
-        }
-        let bits = self.bits();
-        let most = self.coefficients.iter().map(|c| (self.scaled(*c) + (1 << (bits - 1))) >> bits).max().unwrap();
-        let uncoded: i128 = self.coefficients.iter().map(|c| self.square(self.scaled(*c), 0)).sum();
-        if most > 32767 {
-            Some(7)
-        } else if self.lambda * (most + 1) > 1 << 41 {
-            Some(8)
-        } else if uncoded > 1 << 60 {
-            Some(9)
-        } else {
-            None
-        }
+    pub fn skipped(&self) -> bool {
+        self.coefficients.iter().all(|c| self.scaled(*c) < self.threshold())
+    }
+
+    /// M, the largest rounded magnitude.
+    fn most(&self) -> i128 {
+        self.coefficients.iter().map(|c| self.rounded(*c)).max().unwrap()
+    }
+
+    /// D, the squares of the block left uncoded.
+    fn uncoded(&self) -> i128 {
+        self.coefficients.iter().map(|c| self.square(*c, 0)).sum()
+    }
+
+    /// The faults 7, 8 and 9.
+    pub fn level_fault(&self) -> bool {
+        !self.skipped() && self.most() > 32767
+    }
+
+    pub fn price_fault(&self) -> bool {
+        !self.skipped() && whole(self.lambda) * (self.most() + 1) > 1 << 41
+    }
+
+    pub fn distortion_fault(&self) -> bool {
+        !self.skipped() && self.uncoded() > 1 << 60
     }
 
     fn rate(&self, after_zero: bool, a: i128) -> i128 {
@@ -94,10 +144,54 @@ impl Call<'_> {
 
     /// The largest rate that the choice of a level looks at.
     pub fn widest_rate(&self) -> i128 {
-        let bits = self.bits();
-        let rounded = |c: &i16| (self.scaled(*c) + (1 << (bits - 1))) >> bits;
-        let most = self.coefficients.iter().map(rounded).max().unwrap_or(0);
-        self.rate(false, most).max(self.rate(true, most))
+        self.rate(false, self.most()).max(self.rate(true, self.most()))
+    }
+
+    fn cbf(&self, coded: usize) -> i128 {
+        let pair = match self.component {
+            Component::Y => self.intra_coded as usize,
+            Component::U => 2,
+            Component::V => 3,
+        };
+        whole(self.lambda) * self.costs.cbf[2 * pair + coded] as i128
+    }
+
+    fn last(&self, ends: usize) -> i128 {
+        let row = if self.component == Component::Y { 0 } else { 1 };
+        whole(self.lambda) * self.costs.last[2 * row + ends] as i128
+    }
+
+    fn cost(&self, place: usize, after_zero: bool, a: i128) -> i128 {
+        self.square(self.coefficients[place], a) + whole(self.lambda) * self.rate(after_zero, a)
+    }
+
+    /// The levels: the walk, cut where its price is least, the earliest of equals; all 0 where that or the skip is cheaper.
+    pub fn levels(&self) -> Vec<i16> {
+        let mut levels = vec![0i16; self.coefficients.len()];
+        if self.skipped() {
+            return levels;
+        }
+        let places = scan(1 << self.log2_side);
+        let (mut spent, mut rest) = (self.cbf(1), self.uncoded());
+        let (mut least, mut kept, mut after_zero) = (rest + self.cbf(0), 0, false);
+        for (i, place) in places.iter().enumerate() {
+            let m = self.rounded(self.coefficients[*place]);
+            let allowed = if m >= 2 { vec![0, m, m - 1] } else { vec![0, m] };
+            // the first of equals
+            let a = allowed.into_iter().min_by_key(|a| self.cost(*place, after_zero, *a)).unwrap();
+            spent += self.cost(*place, after_zero, a);
+            rest -= self.square(self.coefficients[*place], 0);
+            if a != 0 {
+                if spent + rest + self.last(1) < least {
+                    (least, kept) = (spent + rest + self.last(1), i + 1);
+                }
+                spent += self.last(0);
+            }
+            levels[*place] = if self.coefficients[*place] < 0 { -a as i16 } else { a as i16 };
+            after_zero = a == 0;
+        }
+        places[kept..].iter().for_each(|place| levels[*place] = 0);
+        levels
     }
 
     /// The price of finished levels; 0 for a block that the skip clears.
@@ -106,26 +200,17 @@ impl Call<'_> {
             return 0;
         }
         let places = scan(1 << self.log2_side);
-        let cbf = match self.component {
-            Component::Y => self.intra_coded as usize,
-            Component::U => 2,
-            Component::V => 3,
-        };
-        let last = if self.component == Component::Y { 0 } else { 1 };
-        let magnitude = |place: usize| (levels[place] as i128).abs();
-        let squares: i128 = places.iter().map(|p| self.square(self.scaled(self.coefficients[*p]), magnitude(*p))).sum();
         let Some(end) = places.iter().rposition(|p| levels[*p] != 0) else {
-            return squares + self.lambda * self.costs.cbf[2 * cbf] as i128;
+            return self.uncoded() + self.cbf(0);
         };
-        let (mut rates, mut after_zero) = (0, false);
+        let (mut price, mut after_zero) = (self.cbf(1), false);
         for p in &places[..=end] {
-            rates += self.rate(after_zero, magnitude(*p));
+            price += self.cost(*p, after_zero, (levels[*p] as i128).abs());
             if levels[*p] != 0 {
-                rates += self.costs.last[2 * last] as i128;
+                price += self.last((*p == places[end]) as usize);
             }
             after_zero = levels[*p] == 0;
         }
-        rates += self.costs.last[2 * last + 1] as i128 - self.costs.last[2 * last] as i128;
-        squares + self.lambda * (rates + self.costs.cbf[2 * cbf + 1] as i128)
+        price + places[end + 1..].iter().map(|p| self.square(self.coefficients[*p], 0)).sum::<i128>()
     }
 }

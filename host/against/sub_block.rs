@@ -1,71 +1,91 @@
-//! Holds the three-component call against the Rust that it was ported from, built with overflow checks: counts and levels of every
-//! accepted call must be the Rust's, the stretches of components that are not run and the surplus untouched. Prices are held against
-//! the quantiser's alone, which `quantise` holds against document 01 worked out apart.
+//! The three-component call against the Rust and against document 01: counts and levels of an accepted call must be those of both,
+//! prices the document's, what is not run and the surplus untouched; a refused buffer must be left as it was.
 
-mod blocks;
-use blocks::Random;
-use galemosu::{quantise, sub_block, transform, Component, Costs, Settings};
+use crate::blocks::Random;
+use crate::calls::{self, SubBlock};
+use crate::order;
+use crate::tally::Tally;
+use crate::{costs_of_the_rust, fault_of};
+use galemosu::Coded;
 use std::panic::catch_unwind;
 
-const SURPLUS: [i16; 3] = [-32768, 7, 32767];
-const COMPONENTS: [Component; 3] = [Component::Y, Component::U, Component::V];
+const ALL: &[usize] = &[0, 1, 2];
 
-fn costs(random: &mut Random) -> Costs {
-    let mut entry = || 4096 + random.below(160_000);
-    Costs { run: [0; 8].map(|_| entry()), level: [0; 8].map(|_| entry()), last: [0; 4].map(|_| entry()), cbf: [0; 8].map(|_| entry()) }
-}
-
-/// Whether an accepted call is as it must be; None for a refused one, which must have left its buffer alone.
-fn one(random: &mut Random, log2: usize) -> Option<bool> {
-    let n = 1usize << (2 * log2);
-    let parts = [0..n, n..n + n / 4, n + n / 4..n + n / 2];
-    let mut held: Vec<i16> = parts.iter().flat_map(|p| random.residuals(p.len())).collect();
-    held.extend(SURPLUS);
-    let (costs, run) = (costs(random), random.below(16) as u32);
-    let settings = [0; 3].map(|_| Settings { qp: random.below(64) as u32, lambda: random.below(1 << 16) as f64 / 512.0 });
-    let (intra_slice, intra_coded) = (random.below(2) == 1, random.below(2) == 1);
-    let mut ours = held.clone();
-    let Ok(coded) = sub_block(&mut ours, log2, &settings, run, intra_slice, intra_coded, &costs) else {
-        assert_eq!(ours, held, "a refused call has written");
-        return None;
-    };
-    let mut good = ours[n + n / 2..] == SURPLUS;
-    let flat: Vec<i32> = [&costs.run[..], &costs.level, &costs.last, &costs.cbf].concat().iter().map(|x| *x as i32).collect();
-    let theirs = catch_unwind(|| {
-        let [mut y, mut u, mut v] = parts.clone().map(|p| held[p].to_vec());
-        let counts = oracle_checked::sub_block(&mut y, &mut u, &mut v, log2, log2, settings.map(|s| s.qp as u8), settings.map(|s| s.lambda), intra_coded, intra_slice, run as u8 & 7, &flat);
-        (counts, [y, u, v])
-    });
-    let Ok((counts, levels)) = theirs else { return Some(false) };
-    for k in 0..3 {
-        let part = parts[k].clone();
-        if run >> k & 1 == 0 {
-            good &= ours[part.clone()] == held[part] && (coded[k].count, coded[k].price) == (0, 0);
-            continue;
-        }
-        let (mut alone, side) = (held[part.clone()].to_vec(), log2 - (k != 0) as usize);
-        transform(&mut alone, side, side).unwrap();
-        good &= quantise(&mut alone, side, COMPONENTS[k], settings[k], intra_slice, intra_coded, &costs) == Ok(coded[k]);
-        good &= coded[k].count == counts[k] as u32 && ours[part] == levels[k];
-    }
-    Some(good)
-}
-
-fn main() {
-    std::panic::set_hook(Box::new(|_| {}));
-    let calls: u64 = std::env::args().nth(1).and_then(|n| n.parse().ok()).unwrap_or(200_000);
+/// Refusal 7 of chroma and refusal 9 cannot come: a transformed block of side 16 has rounded magnitudes up to 26,188, and D of one of
+/// side 32 stays below 2^58.
+pub fn compare(accepted: u64) -> Tally {
+    let refusals = [(1, &[0][..]), (2, ALL), (3, ALL), (4, &[0]), (5, &[0]), (6, ALL), (7, &[0]), (8, ALL)];
+    let kinds = [("luma sides", 4), ("run masks", 8), ("pairs of QP and component", 192), ("pairs of flags", 4)];
+    let mut tally = Tally::new("sub_block", &refusals, &kinds);
     let mut random = Random::new(2_309_411);
-    let (mut accepted, mut refused, mut different, mut turn) = (0, 0, 0, 0);
-    while accepted < calls {
-        match one(&mut random, [2, 2, 3, 2, 3, 4, 2, 5][turn % 8]) {
-            None => refused += 1,
-            Some(good) => {
-                accepted += 1;
-                different += !good as u64;
-            }
-        }
+    let mut turn = 0;
+    while tally.wants(accepted) {
+        let log2_luma = [2, 2, 3, 2, 3, 4, 2, 5][turn / 8 % 8];
+        // bits 0 to 2, and now and then bits that mean nothing
+        let run = (turn % 8) as u32 | if random.below(2) == 0 { 0 } else { (random.next() as u32) << 3 };
+        let faulty = random.below(4) == 0;
+        one(&mut tally, &calls::sub_block(&mut random, log2_luma, run, faulty));
         turn += 1;
     }
-    println!("sub_block: {accepted} accepted calls, {refused} refused, {different} different");
-    std::process::exit((different != 0) as i32);
+    tally
+}
+
+fn one(tally: &mut Tally, call: &SubBlock) {
+    let mut ours = call.buffer.clone();
+    let (slice, coded) = (call.intra_slice, call.intra_coded);
+    let answer = galemosu::sub_block(&mut ours, call.log2_luma, &call.settings, call.run, slice, coded, &call.costs).map_err(fault_of);
+    let good = match order::sub_block(call) {
+        Some(fault) => {
+            tally.refused(fault);
+            answer == Err(fault) && ours == call.buffer
+        }
+        None => answer.is_ok_and(|coded| accepted(tally, call, &coded, &ours)),
+    };
+    tally.hold(good, call, &answer);
+}
+
+/// Whether an accepted call has left what it must, and answered so.
+fn accepted(tally: &mut Tally, call: &SubBlock, coded: &[Coded; 3], ours: &[i16]) -> bool {
+    tally.kind("luma sides", call.log2_luma - 2);
+    tally.kind("run masks", call.run as usize & 7);
+    tally.kind("pairs of flags", 2 * call.intra_slice as usize + call.intra_coded as usize);
+    let theirs = theirs(call);
+    let mut overflows = false;
+    let mut good = ours[call.needs()..] == call.buffer[call.needs()..];
+    for k in 0..3 {
+        let (left, held) = (&ours[call.part(k)], &call.buffer[call.part(k)]);
+        if !call.runs(k) {
+            good &= left == held && (coded[k].count, coded[k].price) == (0, 0);
+        } else {
+            tally.kind("pairs of QP and component", 3 * call.settings[k].qp as usize + k);
+            let coefficients = call.coefficients(k);
+            let block = call.block(k, &coefficients);
+            let count = left.iter().filter(|c| **c != 0).count();
+            good &= left == block.levels() && coded[k].count as usize == count && coded[k].price as i128 == block.price(left);
+            overflows |= block.widest_rate() > i32::MAX as i128;
+        }
+    }
+    match theirs {
+        Some((counts, parts)) => {
+            tally.both += 1;
+            good && (0..3).all(|k| coded[k].count == counts[k] as u32 && ours[call.part(k)] == parts[k])
+        }
+        None => {
+            tally.beyond += 1;
+            good && overflows
+        }
+    }
+}
+
+/// What the Rust answers and leaves, if it does not panic.
+fn theirs(call: &SubBlock) -> Option<([u16; 3], [Vec<i16>; 3])> {
+    let [mut y, mut u, mut v] = [0, 1, 2].map(|k| call.buffer[call.part(k)].to_vec());
+    let (side, costs) = (call.log2_luma, costs_of_the_rust(&call.costs));
+    let (qps, lambdas) = (call.settings.map(|s| s.qp as u8), call.settings.map(|s| s.lambda));
+    catch_unwind(move || {
+        let (coded, slice) = (call.intra_coded, call.intra_slice);
+        let counts = oracle_checked::sub_block(&mut y, &mut u, &mut v, side, side, qps, lambdas, coded, slice, call.run as u8, &costs);
+        (counts, [y, u, v])
+    })
+    .ok()
 }

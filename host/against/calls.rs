@@ -1,0 +1,290 @@
+//! The three calls with all their inputs, made at random: sound ones, such at the limits of the late refusals, and such with several
+//! faults at once, so that the order of the tests shows.
+
+use crate::blocks::Random;
+use crate::limits::to_a_limit;
+use crate::paper::{self, Block};
+use galemosu::{Component, Costs, Settings};
+use std::ops::Range;
+
+pub const COMPONENTS: [Component; 3] = [Component::Y, Component::U, Component::V];
+
+const WRONG_SIDES: [usize; 6] = [0, 6, 7, 63, 64, usize::MAX];
+const WRONG_LUMA_SIDES: [usize; 7] = [0, 1, 6, 7, 63, 64, usize::MAX];
+const WRONG_QPS: [u32; 6] = [64, 65, 255, 256, 1 << 31, u32::MAX];
+const WRONG_COSTS: [u64; 6] = [1_048_577, 1 << 31, 1 << 32, (1 << 32) + 1, 1 << 63, u64::MAX];
+const WRONG_RESIDUALS: [i16; 6] = [1024, -1024, 1025, -2048, 32767, -32768];
+
+#[derive(Debug)]
+pub struct Transform {
+    pub buffer: Vec<i16>,
+    pub log2_w: usize,
+    pub log2_h: usize,
+}
+
+#[derive(Debug)]
+pub struct Quantise {
+    pub buffer: Vec<i16>,
+    pub log2_side: usize,
+    pub component: Component,
+    pub settings: Settings,
+    pub intra_slice: bool,
+    pub intra_coded: bool,
+    pub costs: Costs,
+}
+
+#[derive(Debug)]
+pub struct SubBlock {
+    pub buffer: Vec<i16>,
+    pub log2_luma: usize,
+    pub settings: [Settings; 3],
+    pub run: u32,
+    pub intra_slice: bool,
+    pub intra_coded: bool,
+    pub costs: Costs,
+}
+
+impl Transform {
+    /// How many places of the buffer the call is about, of sides that are not refused.
+    pub fn needs(&self) -> usize {
+        1 << (self.log2_w + self.log2_h)
+    }
+}
+
+impl Quantise {
+    pub fn needs(&self) -> usize {
+        1 << (2 * self.log2_side)
+    }
+
+    pub fn block(&self) -> Block<'_> {
+        Block {
+            coefficients: &self.buffer[..self.needs()],
+            log2_side: self.log2_side,
+            component: self.component,
+            qp: self.settings.qp,
+            lambda: self.settings.lambda,
+            intra_slice: self.intra_slice,
+            intra_coded: self.intra_coded,
+            costs: &self.costs,
+        }
+    }
+}
+
+impl SubBlock {
+    pub fn needs(&self) -> usize {
+        3 << (2 * self.log2_luma - 1)
+    }
+
+    pub fn runs(&self, k: usize) -> bool {
+        self.run >> k & 1 == 1
+    }
+
+    /// The log2 side of component k.
+    pub fn side(&self, k: usize) -> usize {
+        self.log2_luma - (k != 0) as usize
+    }
+
+    /// Where component k stands in the buffer.
+    pub fn part(&self, k: usize) -> Range<usize> {
+        let n = 1 << (2 * self.log2_luma);
+        [0..n, n..n + n / 4, n + n / 4..n + n / 2][k].clone()
+    }
+
+    /// The coefficients of component k, as document 01 defines them.
+    pub fn coefficients(&self, k: usize) -> Vec<i16> {
+        paper::transform(&self.buffer[self.part(k)], self.side(k), self.side(k))
+    }
+
+    pub fn block<'a>(&'a self, k: usize, coefficients: &'a [i16]) -> Block<'a> {
+        Block {
+            coefficients,
+            log2_side: self.side(k),
+            component: COMPONENTS[k],
+            qp: self.settings[k].qp,
+            lambda: self.settings[k].lambda,
+            intra_slice: self.intra_slice,
+            intra_coded: self.intra_coded,
+            costs: &self.costs,
+        }
+    }
+}
+
+/// A transform of the given sides, or a faulty one.
+pub fn transform(random: &mut Random, log2_w: usize, log2_h: usize, faulty: bool) -> Transform {
+    let mut call = Transform { buffer: random.picture(1 << log2_w, 1 << (log2_w + log2_h)), log2_w, log2_h };
+    if random.wrong(faulty) {
+        call.log2_w = random.one(&WRONG_SIDES);
+    }
+    if random.wrong(faulty) {
+        call.log2_h = random.one(&WRONG_SIDES);
+    }
+    if random.wrong(faulty) {
+        let all = 0..call.buffer.len();
+        random.spoil(&mut call.buffer, all);
+    }
+    random.lend(&mut call.buffer, faulty);
+    call
+}
+
+/// A call of the quantiser with the given side, QP and component, or a faulty one.
+pub fn quantise(random: &mut Random, log2_side: usize, qp: u32, component: Component, faulty: bool) -> Quantise {
+    let mut call = Quantise {
+        buffer: random.coefficients(log2_side),
+        log2_side,
+        component,
+        settings: Settings { qp, lambda: random.lambda() },
+        intra_slice: random.yes(),
+        intra_coded: random.yes(),
+        costs: random.costs(faulty),
+    };
+    if random.below(6) == 0 {
+        to_a_limit(random, &mut call);
+    }
+    if random.wrong(faulty) {
+        let place = random.place(&call.buffer);
+        call.buffer[place] = -32768;
+    }
+    if random.wrong(faulty) {
+        call.log2_side = random.one(&WRONG_SIDES);
+    }
+    random.unsettle(&mut call.settings, faulty);
+    random.lend(&mut call.buffer, faulty);
+    call
+}
+
+/// A three-component call of the given luma side and run bits, or a faulty one. A component that is not run holds anything.
+pub fn sub_block(random: &mut Random, log2_luma: usize, run: u32, faulty: bool) -> SubBlock {
+    let steep = random.below(8) == 0;
+    let settings = [0; 3].map(|_| {
+        let qp = random.below(if steep { 6 } else { 64 }) as u32;
+        Settings { qp, lambda: if steep && random.yes() { 8192.0 } else { random.lambda() } }
+    });
+    let (intra_slice, intra_coded, costs) = (random.yes(), random.yes(), random.costs(faulty));
+    let mut call = SubBlock { buffer: Vec::new(), log2_luma, settings, run, intra_slice, intra_coded, costs };
+    for k in 0..3 {
+        let (w, n) = (1 << call.side(k), call.part(k).len());
+        call.buffer.extend(if steep { random.flat(n) } else { random.picture(w, n) });
+    }
+    for k in 0..3 {
+        let anything = faulty || !call.runs(k);
+        random.unsettle(&mut call.settings[k], anything);
+        if random.wrong(anything) {
+            let part = call.part(k);
+            random.spoil(&mut call.buffer, part);
+        }
+    }
+    if random.wrong(faulty) {
+        call.log2_luma = random.one(&WRONG_LUMA_SIDES);
+    }
+    random.lend(&mut call.buffer, faulty);
+    call
+}
+
+impl Random {
+    /// Whether an input is to be wrong: in a faulty call, one of five.
+    fn wrong(&mut self, faulty: bool) -> bool {
+        faulty && self.below(5) == 0
+    }
+
+    /// Puts a residual that is refused at one of the places.
+    fn spoil(&mut self, buffer: &mut [i16], places: Range<usize>) {
+        let place = places.start + self.below(places.len() as u64) as usize;
+        buffer[place] = self.one(&WRONG_RESIDUALS);
+    }
+
+    fn unsettle(&mut self, settings: &mut Settings, faulty: bool) {
+        if self.wrong(faulty) {
+            settings.qp = self.one(&WRONG_QPS);
+        }
+        if self.wrong(faulty) {
+            settings.lambda = self.wrong_lambda();
+        }
+    }
+
+    /// Makes the buffer longer than the block, or, of a faulty call, shorter: by one, by more, or empty.
+    fn lend(&mut self, buffer: &mut Vec<i16>, faulty: bool) {
+        let n = buffer.len();
+        if self.wrong(faulty) {
+            buffer.truncate(self.one(&[n - 1, n - 1, n / 2, 1, 0]));
+            return;
+        }
+        // long enough for side 64 now and then, so that a refused side is not refused by the length
+        let surplus = if faulty && self.below(8) == 0 { 6144 } else { self.one(&[0, 1, 3, 40]) };
+        buffer.extend((0..surplus).map(|_| self.next() as i16));
+    }
+
+    /// Residuals: of the kinds of `residuals`, or such as a label leaves.
+    fn picture(&mut self, w: usize, n: usize) -> Vec<i16> {
+        match self.below(8) {
+            0 => self.text(w, n),
+            1 => self.soft_text(w, n),
+            2 => self.ramp(w, n),
+            3 => self.flat(n),
+            _ => self.residuals(n),
+        }
+    }
+
+    /// One residual everywhere, near a limit or anywhere.
+    fn flat(&mut self, n: usize) -> Vec<i16> {
+        let value = if self.yes() { self.between(1000, 1023) } else { self.between(0, 1023) };
+        vec![self.signed(value as i128); n]
+    }
+
+    /// Coefficients of a side: of a transformed picture, of the whole range, few and large, or about one step.
+    fn coefficients(&mut self, log2_side: usize) -> Vec<i16> {
+        let n = 1usize << (2 * log2_side);
+        match self.below(5) {
+            0 | 1 => {
+                let mut block = self.picture(1 << log2_side, n);
+                galemosu::transform(&mut block, log2_side, log2_side).unwrap();
+                block
+            }
+            2 => (0..n).map(|_| self.between(-32767, 32767) as i16).collect(),
+            3 => (0..n).map(|_| if self.below(9) == 0 { self.between(-32767, 32767) as i16 } else { 0 }).collect(),
+            _ => {
+                let reach = 1 << self.below(12);
+                (0..n).map(|_| self.between(-reach, reach) as i16).collect()
+            }
+        }
+    }
+
+    /// A lambda that is accepted: 0 of both signs, about its whole numbers 0 and 1, usual, large, the largest, or any.
+    fn lambda(&mut self) -> f64 {
+        let below_half = f64::from_bits(0.5f64.to_bits() - 1);
+        match self.below(9) {
+            0 => 0.0,
+            1 => -0.0,
+            2 => self.one(&[5e-324, f64::MIN_POSITIVE, below_half / 32768.0, 0.5 / 32768.0, 1.0 / 32768.0]),
+            3 => self.below(4096) as f64 / 65536.0,
+            4 | 5 => self.below(1 << 20) as f64 / 16384.0,
+            6 => self.below((1 << 26) + 1) as f64 / 8192.0,
+            7 => self.one(&[8192.0, f64::from_bits(8192f64.to_bits() - 1)]),
+            _ => f64::from_bits(self.next() >> 2),
+        }
+    }
+
+    /// A lambda that is refused: a NaN, an infinity, one below 0 or above 8192, barely so and far.
+    fn wrong_lambda(&mut self) -> f64 {
+        let just_above = f64::from_bits(8192f64.to_bits() + 1);
+        let signalling = f64::from_bits(0x7ff0_0000_0000_0001);
+        let refused = [f64::NAN, -f64::NAN, signalling, f64::INFINITY, f64::NEG_INFINITY, -5e-324, -1.0, -8192.0, just_above, 1e300];
+        self.one(&refused)
+    }
+
+    /// Cost tables: usual, all equal, extreme, or anything; of a faulty call, perhaps with one entry that is refused.
+    fn costs(&mut self, faulty: bool) -> Costs {
+        let kind = self.below(4);
+        let mut entries = [0u64; 28].map(|_| match kind {
+            0 => 4096 + self.below(160_000),
+            1 => 32768,
+            2 => self.one(&[0, 1, 1_048_576]),
+            _ => self.below(1_048_577),
+        });
+        if self.wrong(faulty) {
+            let entry = self.below(28) as usize;
+            entries[entry] = self.one(&WRONG_COSTS);
+        }
+        let [run, level] = [0, 8].map(|at| entries[at..at + 8].try_into().unwrap());
+        Costs { run, level, last: entries[16..20].try_into().unwrap(), cbf: entries[20..].try_into().unwrap() }
+    }
+}

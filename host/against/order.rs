@@ -1,0 +1,75 @@
+//! Which refusal document 01 gives a call, and of which component: the tests of each call, in its order, written from its text alone.
+
+use crate::calls::{Quantise, SubBlock, Transform};
+
+/// A refusal's number and the component that it is reported with.
+pub type Fault = (u32, usize);
+
+/// A fault, and whether the call has it. A test is asked only when those before it have found nothing.
+type Test<'a> = (u32, usize, Box<dyn Fn() -> bool + 'a>);
+
+fn first(tests: Vec<Test>) -> Option<Fault> {
+    tests.into_iter().find(|test| test.2()).map(|test| (test.0, test.1))
+}
+
+fn bad_lambda(lambda: f64) -> bool {
+    lambda.is_nan() || lambda < 0.0 || lambda > 8192.0
+}
+
+fn bad_costs(costs: &galemosu::Costs) -> bool {
+    [&costs.run[..], &costs.level, &costs.last, &costs.cbf].concat().into_iter().any(|entry| entry > 1_048_576)
+}
+
+fn bad_residuals(residuals: &[i16]) -> bool {
+    residuals.iter().any(|r| !(-1023..=1023).contains(r))
+}
+
+/// "The transform tests 1, 5, 6 only, always with component 0."
+pub fn transform(call: &Transform) -> Option<Fault> {
+    first(vec![
+        (1, 0, Box::new(|| !(1..=5).contains(&call.log2_w) || !(1..=5).contains(&call.log2_h))),
+        (5, 0, Box::new(|| call.buffer.len() < 1 << (call.log2_w + call.log2_h))),
+        (6, 0, Box::new(|| bad_residuals(&call.buffer[..1 << (call.log2_w + call.log2_h)]))),
+    ])
+}
+
+/// "The quantiser alone tests all nine in the table's order, 7 to 9 only for a walked block, and reports the component it was told (0
+/// for 1, 4 and 5)."
+pub fn quantise(call: &Quantise) -> Option<Fault> {
+    let told = call.component as usize;
+    first(vec![
+        (1, 0, Box::new(|| !(1..=5).contains(&call.log2_side))),
+        (2, told, Box::new(|| call.settings.qp > 63)),
+        (3, told, Box::new(|| bad_lambda(call.settings.lambda))),
+        (4, 0, Box::new(|| bad_costs(&call.costs))),
+        (5, 0, Box::new(|| call.buffer.len() < call.needs())),
+        (6, told, Box::new(|| call.buffer[..call.needs()].contains(&-32768))),
+        (7, told, Box::new(|| call.block().level_fault())),
+        (8, told, Box::new(|| call.block().price_fault())),
+        (9, told, Box::new(|| call.block().distortion_fault())),
+    ])
+}
+
+/// "The three-component call tests 1; 2 for Y, U, V; 3 likewise; 4; 5; 6 likewise; then 7, 8, 9 for Y, then U, then V [..]. Settings and
+/// samples of a component not run aren't read; test 4 reads every cost entry all the same."
+pub fn sub_block(call: &SubBlock) -> Option<Fault> {
+    let run: Vec<usize> = (0..3).filter(|k| call.runs(*k)).collect();
+    let mut tests: Vec<Test> = vec![(1, 0, Box::new(|| !(2..=5).contains(&call.log2_luma)))];
+    for &k in &run {
+        tests.push((2, k, Box::new(move || call.settings[k].qp > 63)));
+    }
+    for &k in &run {
+        tests.push((3, k, Box::new(move || bad_lambda(call.settings[k].lambda))));
+    }
+    tests.push((4, 0, Box::new(|| bad_costs(&call.costs))));
+    tests.push((5, 0, Box::new(|| call.buffer.len() < call.needs())));
+    for &k in &run {
+        tests.push((6, k, Box::new(move || bad_residuals(&call.buffer[call.part(k)]))));
+    }
+    for &k in &run {
+        tests.push((7, k, Box::new(move || call.block(k, &call.coefficients(k)).level_fault())));
+        tests.push((8, k, Box::new(move || call.block(k, &call.coefficients(k)).price_fault())));
+        tests.push((9, k, Box::new(move || call.block(k, &call.coefficients(k)).distortion_fault())));
+    }
+    first(tests)
+}
