@@ -1,0 +1,54 @@
+/* Makes the calls that near.c sends, with the archive that it is linked with, until there are no more. */
+#include "call.h"
+#include <stdlib.h>
+#include <unistd.h>
+
+static int all_read(void *to, size_t n)
+{
+    for (char *at = to; n;) {
+        long got = read(0, at, n);
+        if (got <= 0)
+            return 0;
+        at += got, n -= (size_t)got;
+    }
+    return 1;
+}
+
+static int all_written(const void *from, size_t n)
+{
+    for (const char *at = from; n;) {
+        long put = write(1, at, n);
+        if (put <= 0)
+            return 0;
+        at += put, n -= (size_t)put;
+    }
+    return 1;
+}
+
+static uint32_t made(struct call *c, int16_t *buffer)
+{
+    uint32_t slice = c->intra_slice, coded = c->intra_coded;
+    switch (c->what) {
+    case TRANSFORM: return galemosu_transform(buffer, c->len, c->log2_a, c->log2_b);
+    case QUANTISE_Y: return galemosu_quantise_y(buffer, c->len, c->log2_a, c->qp[0], c->lambda[0], slice, coded, c->costs, c->answer);
+    case QUANTISE_U: return galemosu_quantise_u(buffer, c->len, c->log2_a, c->qp[0], c->lambda[0], slice, coded, c->costs, c->answer);
+    case QUANTISE_V: return galemosu_quantise_v(buffer, c->len, c->log2_a, c->qp[0], c->lambda[0], slice, coded, c->costs, c->answer);
+    default: return galemosu_sub_block(buffer, c->len, c->log2_a, c->qp, c->lambda, c->run, slice, coded, c->costs, c->answer);
+    }
+}
+
+int main(void)
+{
+    struct call c;
+    while (all_read(&c, sizeof c)) {
+        size_t bytes = c.len * sizeof(int16_t);
+        int16_t *buffer = malloc(bytes + 2);
+        if (!buffer || !all_read(buffer, bytes))
+            return 1;
+        c.result = made(&c, buffer);
+        if (!all_written(&c, sizeof c) || !all_written(buffer, bytes))
+            return 1;
+        free(buffer);
+    }
+    return 0;
+}

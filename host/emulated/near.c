@@ -1,0 +1,98 @@
+/* The calls of galemosu.h for a host on this processor: each is sent to far.c, which has rt's archive for x86-64 and is run under
+ * emulation, and what it left comes back. RUNNER and PROGRAM are given when this is compiled. */
+#include "call.h"
+#include <pthread.h>
+#include <stdio.h>
+#include <stdlib.h>
+#include <string.h>
+#include <unistd.h>
+
+static pthread_mutex_t one = PTHREAD_MUTEX_INITIALIZER;
+static int to, from, started;
+
+static void stop(const char *why)
+{
+    fprintf(stderr, "galemosu, emulated: %s\n", why);
+    abort();
+}
+
+static void start(void)
+{
+    int out[2], in[2];
+    if (pipe(out) || pipe(in))
+        stop("no pipe");
+    pid_t child = fork();
+    if (child < 0)
+        stop("no process");
+    if (child == 0) {
+        dup2(out[0], 0), dup2(in[1], 1);
+        close(out[0]), close(out[1]), close(in[0]), close(in[1]);
+        execl(RUNNER, RUNNER, PROGRAM, (char *)0);
+        _exit(127);
+    }
+    close(out[0]), close(in[1]);
+    to = out[1], from = in[0], started = 1;
+}
+
+static void sent(const void *what, size_t n)
+{
+    for (const char *at = what; n;) {
+        ssize_t put = write(to, at, n);
+        if (put <= 0)
+            stop("the call could not be sent");
+        at += put, n -= (size_t)put;
+    }
+}
+
+static void received(void *what, size_t n)
+{
+    for (char *at = what; n;) {
+        ssize_t got = read(from, at, n);
+        if (got <= 0)
+            stop("the call did not come back");
+        at += got, n -= (size_t)got;
+    }
+}
+
+static uint32_t relayed(struct call *c, int16_t *buffer)
+{
+    size_t bytes = c->len * sizeof *buffer;
+    pthread_mutex_lock(&one);
+    if (!started)
+        start();
+    sent(c, sizeof *c), sent(buffer, bytes);
+    received(c, sizeof *c), received(buffer, bytes);
+    pthread_mutex_unlock(&one);
+    return c->result;
+}
+
+uint32_t galemosu_transform(int16_t *block, size_t len, size_t log2_w, size_t log2_h)
+{
+    struct call c = {.what = TRANSFORM, .len = len, .log2_a = log2_w, .log2_b = log2_h};
+    return relayed(&c, block);
+}
+
+#define QUANTISE(name, component)                                                                                                    \
+    uint32_t name(int16_t *block, size_t len, size_t log2_side, uint32_t qp, double lambda, uint32_t intra_slice,                    \
+        uint32_t intra_coded, const uint64_t costs[28], uint64_t answer[3])                                                          \
+    {                                                                                                                                \
+        struct call c = {.what = component, .len = len, .log2_a = log2_side, .qp = {qp}, .lambda = {lambda},                         \
+            .intra_slice = intra_slice, .intra_coded = intra_coded};                                                                 \
+        memcpy(c.costs, costs, sizeof c.costs);                                                                                      \
+        relayed(&c, block);                                                                                                          \
+        memcpy(answer, c.answer, 3 * sizeof *answer);                                                                                \
+        return c.result;                                                                                                             \
+    }
+QUANTISE(galemosu_quantise_y, QUANTISE_Y)
+QUANTISE(galemosu_quantise_u, QUANTISE_U)
+QUANTISE(galemosu_quantise_v, QUANTISE_V)
+
+uint32_t galemosu_sub_block(int16_t *buffer, size_t len, size_t log2_luma, const uint32_t qp[3], const double lambda[3], uint32_t run,
+    uint32_t intra_slice, uint32_t intra_coded, const uint64_t costs[28], uint64_t answer[7])
+{
+    struct call c = {.what = SUB_BLOCK, .len = len, .log2_a = log2_luma, .run = run, .intra_slice = intra_slice, .intra_coded = intra_coded};
+    memcpy(c.qp, qp, sizeof c.qp), memcpy(c.lambda, lambda, sizeof c.lambda), memcpy(c.costs, costs, sizeof c.costs);
+    relayed(&c, buffer);
+    memcpy(answer, c.answer, sizeof c.answer);
+    return c.result;
+}
