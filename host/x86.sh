@@ -1,6 +1,7 @@
 # x86.sh: sourced, at the repository's root, by what builds for x86-64 and runs it on whatever processor this is: with the kit's clang, lld
 # and C library, and on another processor with the kit's qemu. Its log is $out/log; $out is the caller's folder.
 machine=$(uname -m)
+triple=x86_64-unknown-linux-gnu
 kit=${RATTLE_HOME:-$(dirname "$(dirname "$(readlink -f "$(command -v rt)")")")}
 tools=$kit/on/$machine/toolchain/bin
 c_library=$kit/on/$machine/toolchain/lib
@@ -10,7 +11,7 @@ qemu=$tools/qemu-x86_64
 say() { tail -40 "$out/log" >&2; exit 1; }
 
 # x86_clang WORDS..: the kit's clang for plain x86-64
-x86_clang() { "$tools/clang" --target=x86_64-unknown-linux-gnu -march=x86-64 --no-default-config "$@" 2>"$out/log" || say; }
+x86_clang() { "$tools/clang" --target=$triple -march=x86-64 --no-default-config "$@" 2>"$out/log" || say; }
 
 # x86_headers FOLDER: what host/ uses of C's headers, which the kit has none of
 x86_headers() {
@@ -52,4 +53,14 @@ x86_runner() {
         printf '#!/bin/sh\nexec "%s" "%s" --library-path "%s" "$@"\n' "$qemu" "$c_library/ld-linux-x86-64.so.2" "$c_library" >"$1"
     fi
     chmod +x "$1"
+}
+
+# rust_for_x86: a rustc that has the standard library for x86-64, if there is one
+rust_for_x86() {
+    for rustc in "${RUSTC:-rustc}" rustc /usr/bin/rustc; do
+        folder=$("$rustc" --print target-libdir --target $triple 2>"$out/log") || continue
+        for library in "$folder"/libstd-*.rlib; do
+            [ ! -f "$library" ] || { command -v "$rustc"; return; }
+        done
+    done
 }

@@ -2,6 +2,7 @@
 //! of the input takes off.
 
 mod blocks;
+mod recorder;
 use blocks::Random;
 use galemosu::{quantise, transform, Component, Costs, Settings};
 use std::time::Instant;
@@ -50,40 +51,25 @@ fn transforms() {
     }
 }
 
-/// Luma of an intra slice at QP 34, with such costs as a recorder has after some blocks.
 fn quantisers() {
-    let costs = Costs {
-        run: [21000, 48000, 37000, 26000, 21000, 48000, 37000, 26000],
-        level: [18000, 52000, 24000, 40000, 18000, 52000, 24000, 40000],
-        last: [12000, 70000, 12000, 70000],
-        cbf: [60000, 14000, 60000, 14000, 60000, 14000, 60000, 14000],
-    };
+    let costs = Costs { run: recorder::RUN, level: recorder::LEVEL, last: recorder::LAST, cbf: recorder::CBF };
     let flat: Vec<i32> = [&costs.run[..], &costs.level, &costs.last, &costs.cbf].concat().iter().map(|x| *x as i32).collect();
-    let settings = Settings { qp: 34, lambda: 57.9 };
-    let mut random = Random::new(11);
+    let settings = Settings { qp: recorder::QP, lambda: recorder::LAMBDA };
     println!("\n| side | blocks | nonzero levels | Rust ns | Galemosu ns | times as fast |");
     println!("|---|---|---|---|---|---|");
-    for log2 in 2..=5 {
-        let (w, n) = (1usize << log2, 1usize << (2 * log2));
-        let kinds: [(&str, Vec<Vec<i16>>); 4] = [
-            ("skipped", (0..16).map(|_| random.blank(n)).collect()),
-            ("ramp", (0..16).map(|_| random.ramp(w, n)).collect()),
-            ("soft text", (0..16).map(|_| random.soft_text(w, n)).collect()),
-            ("sharp text", (0..16).map(|_| random.text(w, n)).collect()),
-        ];
-        for (kind, mut blocks) in kinds {
-            blocks.iter_mut().for_each(|b| transform(b, log2, log2).unwrap());
-            let repeat = 200_000 / n + 20;
-            let ours = |b: &mut [i16]| quantise(b, log2, Component::Y, settings, true, true, &costs).unwrap();
-            let levels: u32 = blocks.iter().map(|b| ours(&mut b.clone()).count).sum();
-            let copy = best(&blocks, repeat, |_| {});
-            let rust = best(&blocks, repeat, |b| {
-                std::hint::black_box(oracle_release::quant(34, 57.9, true, true, b, log2, log2, 0, &flat));
-            }) - copy;
-            let mine = best(&blocks, repeat, |b| {
-                std::hint::black_box(ours(b));
-            }) - copy;
-            println!("| {w} | {kind} | {} | {rust:.0} | {mine:.0} | {:.2} |", levels / 16, rust / mine);
-        }
+    for (log2, kind, mut blocks) in recorder::blocks() {
+        blocks.iter_mut().for_each(|b| transform(b, log2, log2).unwrap());
+        let repeat = 200_000 / blocks[0].len() + 20;
+        let ours = |b: &mut [i16]| quantise(b, log2, Component::Y, settings, true, true, &costs).unwrap();
+        let levels: u32 = blocks.iter().map(|b| ours(&mut b.clone()).count).sum();
+        let copy = best(&blocks, repeat, |_| {});
+        let rust = best(&blocks, repeat, |b| {
+            let (qp, lambda) = (settings.qp as u8, settings.lambda);
+            std::hint::black_box(oracle_release::quant(qp, lambda, true, true, b, log2, log2, 0, &flat));
+        }) - copy;
+        let mine = best(&blocks, repeat, |b| {
+            std::hint::black_box(ours(b));
+        }) - copy;
+        println!("| {} | {kind} | {} | {rust:.0} | {mine:.0} | {:.2} |", 1 << log2, levels / recorder::BLOCKS as u32, rust / mine);
     }
 }

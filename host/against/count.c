@@ -1,28 +1,36 @@
 /* The program whose instructions host/count-x86 counts: linked once with the library's archive and once with the Rust, each of
- * which has galemosu_transform. It stands on nothing but Linux on x86-64.
+ * which has galemosu_transform and galemosu_quantise_y. It stands on nothing but Linux on x86-64.
  *
- *   count LOG2_W LOG2_H 1   TURNS times: copy the block in, and transform it
- *   count LOG2_W LOG2_H 0   the same, with a call of `nothing`, of two instructions, for the transform
+ *   count transform LOG2_W LOG2_H 1   TURNS times: copy a block of random residuals in, and transform it
+ *   count quantise LOG2 LOG2 1        for each of BLOCKS blocks of a file of samples.rs on standard input, transformed: copy it in,
+ *                                     and quantise it
  *
- * Writes a checksum of the block as the last turn left it. What it does beside the calls takes as many instructions with 1 as
- * with 0, whatever the block holds. Status 0 when every call was accepted. */
+ * With 0 for 1 the same, with a call of two instructions that do nothing for the one that is counted. Writes a checksum of what the
+ * calls left, and of the quantiser's counts. What it does beside the calls takes as many instructions with 1 as with 0, whatever the
+ * blocks hold. Status 0 when every call was accepted. */
 
 typedef unsigned long size_t;
 typedef unsigned long u64;
 typedef __attribute__((vector_size(16), aligned(1), may_alias)) char sixteen;
 
-unsigned galemosu_transform(short *block, size_t len, size_t log2_w, size_t log2_h);
-unsigned nothing(short *block, size_t len, size_t log2_w, size_t log2_h);
+typedef unsigned transforms(short *block, size_t len, size_t log2_w, size_t log2_h);
+typedef unsigned quantises(short *block, size_t len, size_t log2_side, unsigned qp, double lambda, unsigned intra_slice,
+    unsigned intra_coded, const u64 costs[28], u64 answer[3]);
 
-enum { TURNS = 2 };
+transforms galemosu_transform, no_transform;
+quantises galemosu_quantise_y, no_quantise;
+/* of the Rust alone: takes the cost tables over, which its quantiser is lent in a shape of its own */
+__attribute__((weak)) void prepare(const u64 costs[28]);
+
+enum { TURNS = 2, BLOCKS = 16 };
 
 __asm__(".globl _start\n"
         "_start: mov %rsp, %rdi\n"
         "and $-16, %rsp\n"
         "call run\n"
         "ud2\n"
-        ".globl nothing\n"
-        "nothing: xor %eax, %eax\n"
+        ".globl no_transform, no_quantise\n"
+        "no_transform: no_quantise: xor %eax, %eax\n"
         "ret\n");
 
 /* Sixteen bytes at a store, as on a processor of which no more is known than x86-64; the compiler unrolls the loop further. */
@@ -69,30 +77,75 @@ static long system_call(long number, long a, long b, long c)
     return number;
 }
 
-static short given[1024], room[1024];
+static short given[BLOCKS][1024], room[1024];
+static u64 sum = 0xcbf29ce484222325u;
+
+static void add(const short *block, size_t n)
+{
+    for (size_t i = 0; i < n; i++) sum = (sum ^ (unsigned short)block[i]) * 0x100000001b3u;
+}
+
+/* residuals of -1023 to 1023, by the generator of blocks.rs */
+static unsigned transform_all(size_t log2_w, size_t log2_h, int counted)
+{
+    transforms *const both[] = {no_transform, galemosu_transform}, *volatile what = both[counted];
+    size_t n = (size_t)1 << (log2_w + log2_h);
+    u64 random = 0x9e3779b97f4a7c15u + 2 * (8 * log2_w + log2_h);
+    unsigned refused = 0;
+    for (size_t i = 0; i < n; i++) {
+        random ^= random << 13, random ^= random >> 7, random ^= random << 17;
+        given[0][i] = (short)((long)((random >> 11) % 2047) - 1023);
+    }
+    for (int turn = 0; turn < TURNS; turn++) {
+        memcpy(room, given[0], n * sizeof *room);
+        refused |= what(room, n, log2_w, log2_h);
+        add(room, n);
+    }
+    return refused;
+}
+
+static struct {
+    double lambda;
+    u64 qp, costs[28];
+} settings;
+
+static void all_read(void *to, size_t n)
+{
+    for (char *at = to; n;) {
+        long got = system_call(0, 0, (long)at, (long)n);
+        if (got <= 0) system_call(231, 1, 0, 0);
+        at += got, n -= (size_t)got;
+    }
+}
+
+static unsigned quantise_all(size_t log2, int counted)
+{
+    quantises *const both[] = {no_quantise, galemosu_quantise_y}, *volatile what = both[counted];
+    size_t n = (size_t)1 << 2 * log2;
+    unsigned refused = 0;
+    all_read(&settings, sizeof settings);
+    if (prepare) prepare(settings.costs);
+    for (int i = 0; i < BLOCKS; i++) {
+        all_read(given[i], n * sizeof *room);
+        refused |= galemosu_transform(given[i], n, log2, log2);
+    }
+    for (int i = 0; i < BLOCKS; i++) {
+        u64 answer[3] = {0};
+        memcpy(room, given[i], n * sizeof *room);
+        refused |= what(room, n, log2, (unsigned)settings.qp, settings.lambda, 1, 1, settings.costs, answer);
+        add(room, n);
+        sum = (sum ^ answer[1]) * 0x100000001b3u;
+    }
+    return refused;
+}
 
 __attribute__((noreturn, used)) void run(const u64 *stack)
 {
     const char *const *words = (const char *const *)(stack + 1);
-    size_t log2_w = (size_t)(words[1][0] - '0'), log2_h = (size_t)(words[2][0] - '0'), n = (size_t)1 << (log2_w + log2_h);
-    unsigned (*const both[])(short *, size_t, size_t, size_t) = {nothing, galemosu_transform};
-    unsigned (*volatile what)(short *, size_t, size_t, size_t) = both[words[3][0] - '0'];
+    size_t log2_w = (size_t)(words[2][0] - '0'), log2_h = (size_t)(words[3][0] - '0');
+    int counted = words[4][0] - '0';
+    unsigned refused = words[1][0] == 't' ? transform_all(log2_w, log2_h, counted) : quantise_all(log2_w, counted);
 
-    /* residuals of -1023 to 1023, by the generator of blocks.rs */
-    u64 random = 0x9e3779b97f4a7c15u + 2 * (8 * log2_w + log2_h);
-    for (size_t i = 0; i < n; i++) {
-        random ^= random << 13, random ^= random >> 7, random ^= random << 17;
-        given[i] = (short)((long)((random >> 11) % 2047) - 1023);
-    }
-
-    unsigned refused = 0;
-    for (int turn = 0; turn < TURNS; turn++) {
-        memcpy(room, given, n * sizeof *room);
-        refused |= what(room, n, log2_w, log2_h);
-    }
-
-    u64 sum = 0xcbf29ce484222325u;
-    for (size_t i = 0; i < n; i++) sum = (sum ^ (unsigned short)room[i]) * 0x100000001b3u;
     char line[17];
     for (int i = 0; i < 16; i++) line[i] = "0123456789abcdef"[sum >> (60 - 4 * i) & 15];
     line[16] = '\n';
