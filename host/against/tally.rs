@@ -61,7 +61,7 @@ impl Tally {
             numbers.entry(*number).or_default().push(format!("{} {times}", ["Y", "U", "V"][*component]));
         }
         let numbers: Vec<String> = numbers.iter().map(|(number, times)| format!("{number}: {}", times.join(" "))).collect();
-        println!("    refusals by number and component: {}", numbers.join("; "));
+        println!("    refusals by number and component (Y where it belongs to none): {}", numbers.join("; "));
         let kinds: Vec<String> = self
             .kinds
             .iter()
