@@ -41,8 +41,9 @@ C
 x86_link() {
     program=$1
     shift
-    "$tools/ld.lld" -pie --dynamic-linker /lib64/ld-linux-x86-64.so.2 -o "$program" "$c_library/Scrt1.o" "$c_library/crti.o" "$c_library/crtbeginS.o" "$@" \
-        "$c_library/libc.so.6" "$c_library/libc_nonshared.a" "$c_library/libgcc.a" "$c_library/crtendS.o" "$c_library/crtn.o" 2>"$out/log" || say
+    "$tools/ld.lld" -pie --dynamic-linker /lib64/ld-linux-x86-64.so.2 -o "$program" \
+        "$c_library/Scrt1.o" "$c_library/crti.o" "$c_library/crtbeginS.o" "$@" "$c_library/libc.so.6" "$c_library/libc_nonshared.a" \
+        "$c_library/libgcc.a" "$c_library/crtendS.o" "$c_library/crtn.o" 2>"$out/log" || say
 }
 
 # x86_runner FILE: a script that runs a program for x86-64, under emulation where this is another processor
