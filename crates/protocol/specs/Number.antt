@@ -29,7 +29,7 @@ unfolding digits
 natural [] = false
 natural (b ∷ w) = (isEmpty w || not (eqb b 48)) && digits (b ∷ w)
 
--- each digit is worth ten times those behind it: v is what the digits before w are worth
+-- ten times what stands before a digit, and the digit: v is what the digits before w are worth
 unfoldable pub valueFrom : ℕ → List ℕ → ℕ
 valueFrom v [] = v
 valueFrom v (b ∷ w) = valueFrom (10 * v + (b - 48)) w
@@ -38,6 +38,7 @@ unfoldable pub valueOf : List ℕ → ℕ
 unfolding valueFrom
 valueOf w = valueFrom 0 w
 
+-- a word's number, if it is one and not above the limit
 unfoldable pub naturalUpTo : ℕ → List ℕ → Natural
 unfolding natural valueOf
 naturalUpTo limit w = cond (natural w && leb (valueOf w) limit) (naturals.Is (valueOf w)) naturals.Malformed
@@ -69,18 +70,20 @@ unfoldable pub hexFrom : ℕ → List ℕ → ℕ
 hexFrom v [] = v
 hexFrom v (b ∷ w) = hexFrom (16 * v + hexDigit b) w
 
+-- exactly 16 of them
 unfoldable pub bitsOf : List ℕ → Natural
 unfolding hexDigits hexFrom
 bitsOf w = cond (eqb (length w) 16 && hexDigits w) (naturals.Is (hexFrom 0 w)) naturals.Malformed
 
 -- ---- printing
--- the digits of n, the most significant first and none in vain: those of a tenth of it, and then the last. More than n tenths are never taken
+-- the digits of n, the most significant first and no 0 in front: those of a tenth of it, and then the last; at most `most` of them
 unfoldable pub printedIn : ℕ → ℕ → List ℕ
 printedIn zero n = []
 printedIn (suc most) n =
     let several = printedIn most (n / 10) ++ ((48 + n % 10) ∷ []) in
     cond (ltb n 10) ((48 + n) ∷ []) several
 
+-- n + 1 digits are enough for every n
 unfoldable pub printed : ℕ → List ℕ
 unfolding printedIn
 printed n = printedIn (suc n) n

@@ -20,7 +20,7 @@ pub fn read_natural(word: &[u8], limit: u64) -> Natural
     if word.len() == 0 {
         return Natural::Malformed;
     }
-    if word[0] == 48 {
+    if word[0] == b'0' {
         if 1 < word.len() {
             return Natural::Malformed;
         }
@@ -29,13 +29,13 @@ pub fn read_natural(word: &[u8], limit: u64) -> Natural
     let mut i = 0;
     while i < word.len() {
         let b = word[i];
-        if b < 48 {
+        if b < b'0' {
             return Natural::Malformed;
         }
-        if 57 < b {
+        if b'9' < b {
             return Natural::Malformed;
         }
-        let d = (b - 48) as u64;
+        let d = (b - b'0') as u64;
         if limit < d {
             return Natural::Malformed;
         }
@@ -48,14 +48,14 @@ pub fn read_natural(word: &[u8], limit: u64) -> Natural
     Natural::Is(v)
 }
 
-// A sample may be negative.
+// A sample may have a `-` before it. -32768 has no magnitude in 16 bits, so that one less than it is negated.
 pub fn read_sample(word: &[u8]) -> Sample
     ensures { λ r. ⌜ r ≡ sampleOf (now (word .entry)) ⌝ }
 {
     if word.len() == 0 {
         return Sample::Malformed;
     }
-    if word[0] == 45 {
+    if word[0] == b'-' {
         let Natural::Is(n) = read_natural(&word[1..], 32768) else {
             return Sample::Malformed;
         };
@@ -74,13 +74,13 @@ pub fn read_sample(word: &[u8]) -> Sample
 fn hex_digit(b: u8) -> u64
     ensures { λ r. ⌜ r ≡ hexDigit b ⌝ }
 {
-    if b < 48 {
+    if b < b'0' {
         return 16;
     }
     if b < 58 {
-        return (b - 48) as u64;
+        return (b - b'0') as u64;
     }
-    if b < 97 {
+    if b < b'a' {
         return 16;
     }
     if b < 103 {

@@ -5,15 +5,18 @@ use crate::number::double_of;
 use crate::number::read_bits;
 use crate::number::read_natural;
 use crate::number::read_sample;
+use crate::verb::Verb;
 use crate::words::word_end;
 use price::Costs;
 use price::Settings;
+use quantise::QuantAnswer;
+use quantise::quant_nnz;
 use refusals::Component;
 use subblock::Request;
 ghost use mathlib.Core.Path.{_≡_};
 ghost use Prim.Native.Nat.{_≤_};
 ghost use lib.ListN.{length, getD};
-ghost use Rattle.protocol.specs.Request.{limitOf, fieldOf, Within};
+ghost use Rattle.protocol.specs.Request.{limitOf, fieldOf, kindsOf, Within, FewSamples};
 
 // The cursor after some fields, or that one of them is malformed.
 pub enum Place {
@@ -21,13 +24,10 @@ pub enum Place {
     Malformed,
 }
 
-// The most that a field of a kind can be: how many samples follow, a component, a number of 32 bits, any number.
+// The most that a field of a kind can be: a component, a number of 32 bits, any number.
 fn limit_of(kind: u8) -> u64
     ensures { λ r. ⌜ r ≡ limitOf kind ⌝ }
 {
-    if kind == b'n' {
-        return 8192;
-    }
     if kind == b'c' {
         return 2;
     }
@@ -47,7 +47,7 @@ fn read_field(word: &[u8], kind: u8) -> Natural
 }
 
 // A field for each kind, from the cursor `at` on.
-pub fn read_fields(line: &[u8], at: usize, kinds: &[u8], fields: &mut [u64; 40]) -> Place
+fn read_fields(line: &[u8], at: usize, kinds: &[u8], fields: &mut [u64; 40]) -> Place
     requires { ⌜ length (now kinds) ≤ 40 ⌝ }
     ensures { λ r. ⌜ Within r (now (kinds .entry)) (now (fields .exit)) ⌝ }
 {
@@ -66,6 +66,41 @@ pub fn read_fields(line: &[u8], at: usize, kinds: &[u8], fields: &mut [u64; 40])
         i += 1;
     }
     Place::At(next)
+}
+
+// The fields of a verb before N:
+//   transform: LOG2W LOG2H
+//   quantise: COMPONENT LOG2 QP LAMBDA INTRA_SLICE INTRA_CODED, COSTS
+//   subblock: LOG2 RUN QPY LAMBDAY QPU LAMBDAU QPV LAMBDAV INTRA_SLICE INTRA_CODED, COSTS
+pub fn read_head(verb: Verb, line: &[u8], at: usize, fields: &mut [u64; 40]) -> Place
+    ensures { λ r. ⌜ Within r (kindsOf verb) (now (fields .exit)) ⌝ }
+{
+    match verb {
+        Verb::Transform => read_fields(line, at, b"ww", fields),
+        Verb::Quantise => { read_fields(line, at, b"cwixiiwwwwwwwwwwwwwwwwwwwwwwwwwwww", fields) }
+        Verb::SubBlock => {
+            read_fields(line, at, b"wiixixixiiwwwwwwwwwwwwwwwwwwwwwwwwwwww", fields)
+        }
+    }
+}
+
+// How many samples follow, and the cursor after that number.
+pub enum Count {
+    Of(usize, usize),
+    Malformed,
+}
+
+pub fn read_count(line: &[u8], at: usize) -> Count
+    ensures { λ r. ⌜ FewSamples r ⌝ }
+{
+    if line.len() < at {
+        return Count::Malformed;
+    }
+    let end = word_end(line, at);
+    let Natural::Is(n) = read_natural(&line[at..end], 8192) else {
+        return Count::Malformed;
+    };
+    Count::Of(n as usize, end + 1)
 }
 
 // Whether exactly as many samples follow as there is room for.
@@ -88,7 +123,7 @@ pub fn read_samples(line: &[u8], at: usize, room: &mut [i16]) -> bool {
     line.len() < next
 }
 
-pub fn component_of(n: u64) -> Component {
+fn component_of(n: u64) -> Component {
     match n {
         0 => Component::Y,
         1 => Component::U,
@@ -97,7 +132,7 @@ pub fn component_of(n: u64) -> Component {
 }
 
 // A QP and a LAMBDA.
-pub fn settings_of(fields: &[u64; 40], i: usize) -> Settings
+fn settings_of(fields: &[u64; 40], i: usize) -> Settings
     requires { ⌜ (i ≤ 38) × (getD (now fields) i 0 ≤ 4294967295) ⌝ }
 {
     Settings {
@@ -128,7 +163,7 @@ fn eight(f: &[u64; 40], i: usize) -> [u64; 8]
 }
 
 // COSTS.
-pub fn costs_of(fields: &[u64; 40], i: usize) -> Costs
+fn costs_of(fields: &[u64; 40], i: usize) -> Costs
     requires { ⌜ i ≤ 12 ⌝ }
 {
     Costs {
@@ -139,7 +174,24 @@ pub fn costs_of(fields: &[u64; 40], i: usize) -> Costs
     }
 }
 
-// What `subblock` asks: LOG2 RUN QPY LAMBDAY QPU LAMBDAU QPV LAMBDAV INTRA_SLICE INTRA_CODED, COSTS.
+// The call that `quantise` asks for.
+pub fn quantise_by(room: &mut [i16], fields: &[u64; 40]) -> QuantAnswer
+    requires { ⌜ getD (now fields) 2 0 ≤ 4294967295 ⌝ }
+{
+    let settings = settings_of(fields, 2);
+    let costs = costs_of(fields, 6);
+    quant_nnz(
+        room,
+        fields[1] as usize,
+        component_of(fields[0]),
+        settings,
+        fields[4] != 0,
+        fields[5] != 0,
+        costs,
+    )
+}
+
+// What `subblock` asks the call for.
 pub fn request_of(fields: &[u64; 40]) -> Request
     requires { ⌜ (getD (now fields) 1 0 ≤ 4294967295) × (getD (now fields) 2 0 ≤ 4294967295) × (getD (now fields) 4 0 ≤ 4294967295) × (getD (now fields) 6 0 ≤ 4294967295) ⌝ }
 {

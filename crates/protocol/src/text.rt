@@ -6,16 +6,17 @@ ghost use lib.ListN.{length};
 ghost use Rattle.protocol.specs.Number.{printed, printedSample};
 ghost use Rattle.protocol.specs.Text.{Put};
 
+// The digits of a tenth, and then the last.
 pub fn put_natural(out: &mut [u8], at: usize, value: u64) -> usize
     requires { ⌜ at + 20 ≤ length (now out) ⌝ }
     ensures { λ r. ⌜ Put (now (out .entry)) at (printed value) 20 (now (out .exit)) r ⌝ }
 {
     if value < 10 {
-        out[at] = 48 + value as u8;
+        out[at] = b'0' + value as u8;
         return at + 1;
     }
     let end = put_natural(out, at, value / 10);
-    out[end] = 48 + (value % 10) as u8;
+    out[end] = b'0' + (value % 10) as u8;
     end + 1
 }
 
@@ -30,6 +31,7 @@ fn magnitude(value: i16) -> u64
     }
 }
 
+// The magnitude, behind a `-` if the sample is negative.
 pub fn put_sample(out: &mut [u8], at: usize, value: i16) -> usize
     requires { ⌜ at + 21 ≤ length (now out) ⌝ }
     ensures { λ r. ⌜ Put (now (out .entry)) at (printedSample value) 6 (now (out .exit)) r ⌝ }

@@ -1,0 +1,92 @@
+-- `protocol::call` meets its contract: the run mask and each QP are within 32 bits, by the kinds of the verb's fields.
+-- Assumes nothing.
+use mathlib.Core.Path.{subst}
+use borrow.Author.Needs.{needs}
+use lib.Dec.{lit<}
+use Rattle.protocol.specs.declared.verb.Verb.{Verb}
+use Rattle.protocol.specs.Request.{kindsOf, Limited}
+use Rattle.protocol.proofs.call.Statement.{statement}
+use Rattle.protocol.proofs.call.Tie as tie
+
+enum-told : tie.Need-enum-told
+enum-told c = search needs
+
+element-copy-out-trans : tie.Need-element-copy-out-trans
+element-copy-out-trans c = search needs
+
+element-copy-out-trans-2 : tie.Need-element-copy-out-trans-2
+element-copy-out-trans-2 c = search needs
+
+trans-requires : tie.Need-trans-requires
+trans-requires c κs = search needs
+
+of-transform-requires : tie.Need-of-transform-requires
+of-transform-requires c κs = search needs
+
+enum-told-2 : tie.Need-enum-told-2
+enum-told-2 c = search needs
+
+quantise-by-requires : tie.Need-quantise-by-requires
+quantise-by-requires c κs =
+    let s = c .before .before .before in
+    let of = subst (λ (v : Verb). Limited (kindsOf v) (s .args .fields .now)) (c .before .enum-told2 .given .1) (s .pre) in
+    of 2 (lit< tt)
+
+of-quantise-requires : tie.Need-of-quantise-requires
+of-quantise-requires c κs = search needs
+
+enum-told-3 : tie.Need-enum-told-3
+enum-told-3 c = search needs
+
+request-of-requires : tie.Need-request-of-requires
+request-of-requires c κs =
+    let s = c .before .before .before in
+    let of = subst (λ (v : Verb). Limited (kindsOf v) (s .args .fields .now)) (c .before .enum-told3 .given .1) (s .pre) in
+    (of 1 (lit< tt), of 2 (lit< tt), of 4 (lit< tt), of 6 (lit< tt))
+
+sub-block-tq-requires : tie.Need-sub-block-tq-requires
+sub-block-tq-requires c κs = search needs
+
+of-sub-block-requires : tie.Need-of-sub-block-requires
+of-sub-block-requires c κs = search needs
+
+same-length : tie.Need-same-length
+same-length c = search needs
+
+returns : tie.Need-returns
+returns c = search needs
+
+same-length-2 : tie.Need-same-length-2
+same-length-2 c = search needs
+
+returns-2 : tie.Need-returns-2
+returns-2 c = search needs
+
+same-length-3 : tie.Need-same-length-3
+same-length-3 c = search needs
+
+returns-3 : tie.Need-returns-3
+returns-3 c = search needs
+
+pub call-spec : {M : Type 1} → statement M
+call-spec =
+    tie.close
+    (tie.spec
+    enum-told
+    element-copy-out-trans
+    element-copy-out-trans-2
+    trans-requires
+    of-transform-requires
+    enum-told-2
+    quantise-by-requires
+    of-quantise-requires
+    enum-told-3
+    request-of-requires
+    sub-block-tq-requires
+    of-sub-block-requires
+    same-length
+    returns
+    same-length-2
+    returns-2
+    same-length-3
+    returns-3)

@@ -1,0 +1,26 @@
+// The verbs. Each keeps its meaning for good; one that is added has fields of its own, or those of another.
+use crate::words::same;
+
+pub enum Verb {
+    Transform,
+    Quantise,
+    SubBlock,
+}
+
+pub enum Named {
+    Is(Verb),
+    Malformed,
+}
+
+pub fn read_verb(word: &[u8]) -> Named {
+    if same(word, b"transform") {
+        return Named::Is(Verb::Transform);
+    }
+    if same(word, b"quantise") {
+        return Named::Is(Verb::Quantise);
+    }
+    if same(word, b"subblock") {
+        return Named::Is(Verb::SubBlock);
+    }
+    Named::Malformed
+}
