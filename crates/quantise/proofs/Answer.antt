@@ -1,7 +1,7 @@
 -- What the definition answers of document 01's call, as code finds it: the faults one by one, and skip, M, D and the rule by the
 -- numbers that code works out from the block by rows. Assumes nothing.
 use mathlib.Core.Path.{_≡_, refl, sym, ap, subst, fun-ext, _∙_}
-use mathlib.Core.Bool.{Bool, true, false, not}
+use mathlib.Core.Bool.{Bool, true, false, not, _||_}
 use mathlib.Core.List.{List, [], _∷_, map}
 use Prim.Native.Nat.{ℕ, zero, suc, _+_, _-_, _*_, _/_, _^_, _≤_, _<_, max}
 use native.Mathlib.Omega.{arith}
@@ -10,7 +10,7 @@ use lib.Pow.{pow-pos}
 use lib.ListN.{length, getD, replicate, length-replicate, length-map, getD-replicate}
 use lib.Seq.{take-all, ext-getD}
 use lib.IntN.{ℤ, pos, negsuc, natAbs}
-use borrow.Author.Tests.{lt-ltb, le-ltb, le-leb, lt-leb}
+use borrow.Author.Tests.{lt-ltb, le-ltb, le-leb}
 use Rattle.integers.specs.Sum.{at, Addition, over, onℕ, onMax, onOr}
 use Rattle.integers.specs.Tests.{some, eqℤ}
 use Rattle.integers.proofs.Sums.{Lawful, nats}
@@ -21,7 +21,7 @@ use Rattle.tables.proofs.OneToOne.{scan-length}
 use Rattle.tables.proofs.Order.{scan-over, scan-hit}
 use Rattle.refusals.specs.declared.Component.{Component}
 use Rattle.refusals.specs.Numbers.{numberOf, componentOf}
-use Rattle.refusals.specs.Faults.{Fault}
+use Rattle.refusals.specs.Faults.{Fault, outside}
 use Rattle.refusals.proofs.First.{First, later, None, end, but, refused-with-the-first, accepted-without-a-fault}
 use Rattle.price.specs.declared.Costs.{Costs}
 use Rattle.price.specs.declared.Settings.{Settings}
@@ -82,15 +82,15 @@ module _ (B : List ℤ) (l : ℕ) (k : Component) (s : Settings) (i j : Bool) (t
   call = called B l k s i j t
 
   -- ---- the first five faults
-  pub side-low : l < 1 → sideFault .holds call ≡ true
+  pub side-test : (b : Bool) → outside 1 5 l ≡ b → sideFault .holds call ≡ b
   unfolding sideFault called
-  side-low h = rw (lt-leb 1 l h)
+  side-test b e = rw e (twice b)
+    where
+      twice : (b : Bool) → (b || b) ≡ b
+      twice true = refl
+      twice false = refl
 
-  pub side-high : 1 ≤ l → 5 < l → sideFault .holds call ≡ true
-  unfolding sideFault called
-  side-high g h = rw (le-leb 1 l g, lt-leb l 5 h)
-
-  pub side-right : 1 ≤ l → l ≤ 5 → sideFault .holds call ≡ false
+  side-right : 1 ≤ l → l ≤ 5 → sideFault .holds call ≡ false
   unfolding sideFault called
   side-right g h = rw (le-leb 1 l g, le-leb l 5 h)
 

@@ -28,17 +28,17 @@ use Rattle.quantise.specs.declared.scale.Scale.{Scale}
 use Rattle.quantise.specs.declared.prices.Prices.{Prices}
 use Rattle.quantise.specs.declared.walk.Walk.{Walk}
 use Rattle.quantise.specs.Block.{signs}
-use Rattle.quantise.specs.Code.{Fine, ruleBy, totalsOf, keptOf, keptPlaces, Scanned, Begins, Standing, CutOver, inOrder, placesBy, Codable, CodedAs}
+use Rattle.quantise.specs.Code.{Fine, ruleBy, totalsOf, keptOf, KeptAs, keptPlaces, Scanned, Begins, Standing, CutOver, inOrder, placesBy, Codable, CodedAs}
 use Rattle.quantise.proofs.Steps.{allowed-below}
 use Rattle.quantise.proofs.Reaching.{magnitude-of-0}
 use Rattle.quantise.proofs.Keeping.{kept-some, kept-places, same-walk, same-walked, kept-uncoded}
 use Rattle.quantise.proofs.Signing.{same-count, same-block, everywhere}
 
 -- ---- a square block
-module _ (l : ℕ) (hi : l ≤ 5) where
-  pub area-range : 2 ^ l * 2 ^ l ≤ 1024
-  area-range = let h = pow-mono {i = l} {j = 5} hi in omega (arith, mul-le-mul h h)
+pub area-range : (most l : ℕ) → l ≤ most → 2 ^ l * 2 ^ l ≤ 2 ^ most * 2 ^ most
+area-range most l h = let p = pow-mono {i = l} {j = most} h in mul-le-mul p p
 
+module _ (l : ℕ) (hi : l ≤ 5) where
   pub area-is : 4 ^ l ≡ 2 ^ l * 2 ^ l
   unfolding square
   area-is = sym (square-length l hi) ∙ scan-length l l hi hi
@@ -50,7 +50,7 @@ module _ (l : ℕ) (hi : l ≤ 5) where
         is = h ∙ ap (λ (k : ℕ). scan k k) (sym e);
         some = omega (arith, pow-pos l);
         full = ap (λ (k : ℕ). length (scan k k)) e ∙ scan-length l l hi hi ∙ ap (λ (k : ℕ). k * k) (sym e);
-        few = omega (arith, area-range, ap (λ (k : ℕ). k * k) e);
+        few = omega (arith, area-range 5 l hi, ap (λ (k : ℕ). k * k) e);
       }
 
 -- ---- the walk begins with D and the flags
@@ -58,8 +58,7 @@ abbrev pub firstWalk : Prices → ℕ → Walk
 firstWalk p d = record { base = d + p .coded; best = d + p .empty; cut = 0; prev = 1 }
 
 module _ (p : Prices) (g : Scale) (side : ℕ) (block : List ℤ) (d : ℕ) (held : List ℕ) (sc : Scanned side held)
-    (c : Codable p g side block d) (kept : List ℕ) (room : length kept ≡ side * side)
-    (as-kept : (k : ℕ) → k < side * side → getD kept k 0 ≡ keptOf g (at block k)) where
+    (c : Codable p g side block d) (kept : List ℕ) (n : ℕ) (kept-as : KeptAs g block kept n) where
   abbrev r : Rule
   r = ruleBy p g
 
@@ -69,6 +68,12 @@ module _ (p : Prices) (g : Scale) (side : ℕ) (block : List ℤ) (d : ℕ) (hel
   abbrev ps : List ℕ
   ps = placesBy g side block
 
+  room : length kept ≡ side * side
+  room = kept-as .room ∙ c .room
+
+  as-kept : (k : ℕ) → k < side * side → getD kept k 0 ≡ keptOf g (at block k)
+  as-kept k h = kept-as .each k (omega (arith, c .room))
+
   places-are : keptPlaces g side kept ≡ map (λ z. keptOf g z * g .q) zs
   places-are = kept-places g side held sc block kept as-kept
 
@@ -76,7 +81,7 @@ module _ (p : Prices) (g : Scale) (side : ℕ) (block : List ℤ) (d : ℕ) (hel
   of-kept : (P : ℕ → Type 0) → P 0 → ((k : ℕ) → g .least ≤ natAbs (at block k) → P (natAbs (at block k))) → (k : ℕ) → P (getD kept k 0)
   of-kept P none some k =
       ⊎-elim (λ (h : k < side * side). subst P (sym (as-kept k h)) (go (leb (g .least) (natAbs (at block k))) refl))
-      (λ (h : side * side ≤ k). subst P (sym (List·getD-eq-default kept 0 (omega arith))) none)
+      (λ (h : side * side ≤ k). subst P (sym (List·getD-eq-default kept 0 (omega (arith, room)))) none)
       (below-or-not k (side * side))
     where
       go : (t : Bool) → leb (g .least) (natAbs (at block k)) ≡ t → P (cond t (natAbs (at block k)) 0)

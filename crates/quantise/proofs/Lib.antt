@@ -11,9 +11,10 @@ pub mod Reaching
 pub mod Uncoding
 pub mod Errors
 pub mod Weighing
+pub mod Counting
+pub mod Signing
 pub mod Steps
 pub mod Keeping
-pub mod Signing
 pub mod Coding
 pub mod Answer
 pub mod Accepting

@@ -3,7 +3,7 @@
 use mathlib.Core.Path.{_≡_, refl, sym, ap, _∙_}
 use mathlib.Core.Bool.{Bool, _&&_}
 use Prim.Native.Nat.{ℕ, zero, suc, _+_, _-_, _*_, _/_, _%_, _^_, _≤_, _<_}
-use native.Mathlib.Nat.{mod-lt, mul-div-le, lt-mul-div-succ, mul-add, mul-le-mul, pow-suc, mul-le-mul-right, mul-one, div-le-self, div-le-of-le-mul}
+use native.Mathlib.Nat.{mod-lt, mul-div-le, lt-mul-div-succ, mul-add, mul-le-mul, pow-suc, mul-le-mul-right, mul-one, div-le-of-le-mul}
 use native.Mathlib.Omega.{arith}
 use lib.Dec.{leb, leb→le, lit<}
 use lib.Pow.{pow-add, pow-mono, pow-pos}
@@ -73,8 +73,8 @@ pub half-range : (l qp : ℕ) → 1 ≤ l → l ≤ 5 → qp ≤ 63 → 2 ^ (shi
 half-range l qp lo hi hq = pow-mono {i = shiftOf l qp - 1} {j = 27} (omega (arith, shift-range l qp lo hi hq))
 
 -- the smallest |c| whose L reaches half a unit
-pub least-range : (half q : ℕ) → 1 ≤ q → (half + q - 1) / q ≤ half + q
-least-range half q h = omega (arith, div-le-self (half + q - 1) q)
+pub least-range : (half q : ℕ) → 14564 ≤ q → half ≤ 2 ^ 27 → (half + q - 1) / q ≤ 16384
+least-range half q h b = div-le-of-le-mul q (omega arith)
 
 pub scale-sound : (l qp : ℕ) → 1 ≤ l → l ≤ 5 → qp ≤ 63 → (g : Scale) → g .q ≡ scaleOf forward qp → g .shift ≡ shiftOf l qp
     → g .unit ≡ 2 ^ (g .shift) → g .half ≡ 2 ^ (g .shift - 1) → g .error ≡ errorScale l (g .q) → g .front ≡ 2 ^ (8 + l)

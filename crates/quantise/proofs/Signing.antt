@@ -2,7 +2,6 @@
 -- scan. The count does not depend on the order. Assumes nothing.
 use mathlib.Core.Path.{_≡_, refl, sym, ap, subst, _∙_}
 use mathlib.Core.Logic.{_⊎_, ⊎-elim}
-use mathlib.Core.Bool.{cond}
 use mathlib.Core.List.{List, [], _∷_, map}
 use Prim.Native.Nat.{ℕ, zero, suc, _+_, _*_, _≤_, _<_}
 use native.Mathlib.Nat.{not-suc-le-zero, le-of-suc-le-suc, eq-or-lt-of-le}
@@ -17,33 +16,11 @@ use Rattle.integers.proofs.Lists.{map-at}
 use Rattle.tables.specs.Scan.{scan, scanAt}
 use Rattle.tables.proofs.Order.{scan-hit, scan-over}
 use Rattle.price.specs.Level.{signed}
-use Rattle.price.specs.Rule.{isZero}
 use Rattle.price.specs.Price.{nonzeros}
 use Rattle.quantise.specs.Block.{signs, laid}
 use Rattle.quantise.specs.Code.{Scanned, Standing, inOrder}
+use Rattle.quantise.proofs.Counting.{ones, nonzeros-over}
 use Rattle.quantise.proofs.Laid.{laid-length, laid-on-scan}
-
--- ---- the count
-abbrev pub ones : ℕ → ℕ
-ones a = cond (isZero a) 0 1
-
-pub one-more : (a : ℕ) → (a ≡ 0 → ⊥) → ones a ≡ 1
-one-more zero h = absurd (h refl)
-one-more (suc a) h = refl
-
-pub none-more : (a : ℕ) → a ≡ 0 → ones a ≡ 0
-none-more zero e = refl
-none-more (suc a) e = absurd (let z : ⊥ = omega arith in z)
-
-pub ones-few : (a : ℕ) → ones a ≤ 1
-ones-few zero = omega arith
-ones-few (suc a) = omega arith
-
-pub nonzeros-over : (ls : List ℕ) → nonzeros ls ≡ over onℕ ones ls
-unfolding nonzeros over
-nonzeros-over [] = refl
-nonzeros-over (zero ∷ ls) = omega (arith, nonzeros-over ls)
-nonzeros-over (suc a ∷ ls) = omega (arith, nonzeros-over ls)
 
 -- ---- the levels by rows
 pub signs-length : (cs : List ℤ) (ms : List ℕ) → length ms ≡ length cs → length (signs cs ms) ≡ length cs

@@ -1,16 +1,17 @@
 -- The loop of the walk over magnitudes that are kept by rows: its totals are the walk's over the places passed, its magnitudes those
--- walked, and no total passes 2^62. A place where nothing is kept has m = 0, and is passed. Assumes nothing.
+-- walked, and no total passes 2^62. A place where nothing is kept has m = 0, and is passed; behind the last place where something
+-- is kept the walk may stop. Assumes nothing.
 use mathlib.Core.Path.{_≡_, refl, sym, ap, subst, _∙_}
 use mathlib.Core.Logic.{_⊎_, inl, inr, ⊎-elim, _≢_}
 use mathlib.Core.Bool.{Bool, true, false, cond, _&&_}
-use mathlib.Core.List.{List, [], _∷_}
+use mathlib.Core.List.{List, [], _∷_, map}
 use Prim.Native.Nat.{ℕ, zero, suc, _+_, _-_, _*_, _≤_, _<_, _^_, max}
 use native.Mathlib.Omega.{arith}
 use native.Mathlib.Numerals.{add-one}
 use native.Mathlib.Nat.{mul-le-mul, mul-le-mul-left, zero-mul, eq-or-lt-of-le, not-suc-le-zero, le-of-suc-le-suc}
 use lib.Dec.{ltb, leb, eqb, leb·suc-suc}
-use lib.ListN.{length, getD, set, take, drop, length-set, length-map}
-use lib.Seq.{getD-set-same, getD-set-other, take-all, drop-cons}
+use lib.ListN.{length, getD, set, take, drop, length-set, length-map, length-drop}
+use lib.Seq.{getD-set-same, getD-set-other, getD-drop, drop-cons}
 use borrow.Author.Tests.{ltb-true, ltb-false, eqb-true, eqb-false, lt-ltb, le-ltb, le-leb, lt-leb}
 use Rattle.integers.proofs.Order.{below-or-not}
 use Rattle.integers.proofs.Lists.{map-at}
@@ -18,12 +19,13 @@ use Rattle.tables.specs.Scan.{scan, scanAt}
 use Rattle.tables.proofs.OneToOne.{scan-inside, scan-apart}
 use Rattle.price.specs.Level.{magnitude, distortion}
 use Rattle.price.specs.Rule.{Rule, Allowed, isZero}
-use Rattle.price.specs.Price.{uncoded}
+use Rattle.price.specs.Price.{uncoded, nonzeros}
 use Rattle.price.specs.Walk.{walked, cutAt}
 use Rattle.price.specs.OnePass.{Totals, step, walk}
 use Rattle.price.proofs.Choice.{length-walked, walked-cheapest}
 use Rattle.price.proofs.OnePass.{one-pass-level}
 use Rattle.price.proofs.Bounds.{walk-within}
+use Rattle.price.proofs.Tail.{Quiet, quiet-walk, walk-parts}
 use Rattle.quantise.specs.declared.scale.Scale.{Scale}
 use Rattle.quantise.specs.declared.prices.Prices.{Prices}
 use Rattle.quantise.specs.declared.walk.Walk.{Walk}
@@ -31,6 +33,8 @@ use Rattle.quantise.specs.declared.walk.Walked.{Walked}
 use Rattle.quantise.specs.Code.{ruleBy, rateBy, totalsOf, passed, Ready, keptPlaces, Scanned, Begins, Standing, Cleared, WalkedOver, CutBehind, CutOver}
 use Rattle.quantise.proofs.Reaching.{magnitude-of-0}
 use Rattle.quantise.proofs.Weighing.{quiet}
+use Rattle.quantise.proofs.Counting.{ones, one-more, none-more, nonzeros-next, some-left, none-left}
+use Rattle.quantise.proofs.Signing.{same-count}
 
 pub some-kept : (a : ℕ) → (a ≡ 0 → ⊥) → 1 ≤ a
 some-kept zero h = absurd (h refl)
@@ -75,6 +79,17 @@ module _ (p : Prices) (g : Scale) (w₀ : Walk) (side : ℕ) (kept held : List �
   count : length ps ≡ side * side
   count = length-map (scan side side) (λ k. getD kept k 0 * g .q) ∙ sc .full
 
+  -- what is kept, in scan order
+  abbrev pub inScan : List ℕ
+  inScan = map (λ k. getD kept k 0) (scan side side)
+
+  scan-long : length inScan ≡ side * side
+  scan-long = length-map (scan side side) (λ k. getD kept k 0) ∙ sc .full
+
+  scan-at : (n : ℕ) → n < side * side → getD inScan n 0 ≡ keptAt n
+  unfolding scanAt
+  scan-at n h = map-at 0 0 (λ k. getD kept k 0) (scan side side) n (omega (arith, sc .full))
+
   place-at : (n : ℕ) → n < side * side → getD ps n 0 ≡ keptAt n * g .q
   unfolding scanAt
   place-at n h = map-at 0 0 (λ k. getD kept k 0 * g .q) (scan side side) n (omega (arith, sc .full))
@@ -118,11 +133,19 @@ module _ (p : Prices) (g : Scale) (w₀ : Walk) (side : ℕ) (kept held : List �
   level-at : (n : ℕ) → n < side * side → (total (n + 1)) .prev ≡ getD ls n 0
   level-at n h = ap (λ (k : ℕ). (total k) .prev) (add-one n) ∙ one-pass-level r 0 (totalsOf w₀) ps n (omega (arith, count))
 
-  pub level-small : (n : ℕ) → n < side * side → getD ls n 0 ≤ 32767
+  level-below : (n : ℕ) → n < side * side → getD ls n 0 ≤ magnitude (g .shift) (keptAt n * g .q)
   unfolding ruleBy
-  level-small n h =
+  level-below n h =
       let a = allowed-below _ _ (walked-cheapest r (isZero (w₀ .prev)) ps n (omega (arith, count)) .allowed) in
-      omega (arith, b .fine (scanAt side side n) .level, ap (magnitude (g .shift)) (place-at n h))
+      omega (arith, ap (magnitude (g .shift)) (place-at n h))
+
+  level-small : (n : ℕ) → n < side * side → getD ls n 0 ≤ 32767
+  level-small n h = omega (arith, level-below n h, b .fine (scanAt side side n) .level)
+
+  -- where nothing is kept m is 0
+  nothing-there : (n : ℕ) → keptAt n ≡ 0 → magnitude (g .shift) (keptAt n * g .q) ≡ 0
+  nothing-there n e =
+      ap (magnitude (g .shift)) (ap (λ (a : ℕ). a * g .q) e ∙ zero-mul (g .q)) ∙ magnitude-of-0 (g .shift) (omega (arith, b .sound .low))
 
   pub inside : (n : ℕ) → n < side * side → scanAt side side n < side * side
   inside n h = scan-inside side side (sc .some) (sc .some) n (omega (arith, sc .full))
@@ -130,8 +153,8 @@ module _ (p : Prices) (g : Scale) (w₀ : Walk) (side : ℕ) (kept held : List �
   apart : (j k : ℕ) → j < side * side → k < side * side → scanAt side side j ≡ scanAt side side k → j ≡ k
   apart j k hj hk e = scan-apart side side (sc .some) (sc .some) j k (omega (arith, sc .full)) (omega (arith, sc .full)) e
 
-  -- the loop before place n
-  pub record Walking (levels : List ℕ) (w : Walk) (end n : ℕ) : Type 0 where
+  -- the loop before place n, with `left` places to step at
+  pub record Walking (levels : List ℕ) (w : Walk) (end left n : ℕ) : Type 0 where
     pub place : n ≤ side * side
     pub room : length levels ≡ side * side
     pub same : totalsOf w ≡ total n
@@ -139,10 +162,11 @@ module _ (p : Prices) (g : Scale) (w₀ : Walk) (side : ℕ) (kept held : List �
     pub ahead : (k : ℕ) → n ≤ k → k < side * side → getD levels (scanAt side side k) 0 ≡ 0
     pub ended : end ≤ n
     pub tail : (k : ℕ) → end ≤ k → k < n → getD ls k 0 ≡ 0
+    pub rest : left ≡ nonzeros (drop n inScan)
 
-  pub begun : (levels : List ℕ) → length levels ≡ side * side → Cleared levels → Walking levels w₀ 0 0
+  pub begun : (levels : List ℕ) (left : ℕ) → length levels ≡ side * side → Cleared levels → left ≡ nonzeros kept → Walking levels w₀ 0 left 0
   unfolding walk
-  begun levels e z =
+  begun levels left e z q =
       record {
         place = omega arith;
         room = e;
@@ -151,9 +175,14 @@ module _ (p : Prices) (g : Scale) (w₀ : Walk) (side : ℕ) (kept held : List �
         ahead = λ k l h. z (scanAt side side k);
         ended = omega arith;
         tail = λ k l h. absurd (not-suc-le-zero h);
+        rest = q ∙ same-count side held sc inScan scan-long kept (b .room) (λ k h. sym (scan-at k h));
       }
 
-  module _ (levels : List ℕ) (w : Walk) (end n : ℕ) (i : Walking levels w end n) (h : n < side * side) where
+  -- while a place is left to step at, n lies inside the block
+  pub going : (levels : List ℕ) (w : Walk) (end left n : ℕ) → Walking levels w end left n → 0 < left → n < side * side
+  going levels w end left n i h = omega (arith, scan-long, some-left inScan n (omega (arith, i .rest)))
+
+  module _ (levels : List ℕ) (w : Walk) (end left n : ℕ) (i : Walking levels w end left n) (h : n < side * side) where
     pub base-small : w .base ≤ 2 ^ 62
     base-small = omega (arith, ap (λ (t : Totals). t .base) (i .same), bounded n (i .place))
 
@@ -174,12 +203,16 @@ module _ (p : Prices) (g : Scale) (w₀ : Walk) (side : ℕ) (kept held : List �
         ⊎-elim (λ (e : k ≡ n). subst P (sym e) new) (λ (q : k < n). old k q)
         (eq-or-lt-of-le (le-of-suc-le-suc (subst (λ (m : ℕ). k < m) (add-one n) l)))
 
-    pub passes : (v : Walk) → keptAt n ≡ 0 → totalsOf v ≡ passed p (totalsOf w) → Walking levels v end (n + 1)
+    rest-next : left ≡ ones (keptAt n) + nonzeros (drop (n + 1) inScan)
+    rest-next =
+        i .rest
+        ∙ nonzeros-next inScan n (omega (arith, scan-long))
+        ∙ ap (λ (a : ℕ). ones a + nonzeros (drop (n + 1) inScan)) (scan-at n h)
+
+    pub passes : (v : Walk) → keptAt n ≡ 0 → totalsOf v ≡ passed p (totalsOf w) → Walking levels v end left (n + 1)
     passes v e q =
-        let z : magnitude (g .shift) (keptAt n * g .q) ≡ 0 =
-        ap (magnitude (g .shift)) (ap (λ (a : ℕ). a * g .q) e ∙ zero-mul (g .q)) ∙ magnitude-of-0 (g .shift) (omega (arith, b .sound .low)) in
         let s : totalsOf v ≡ total (n + 1) =
-        q ∙ ap (passed p) (i .same) ∙ sym (next n h ∙ quiet p g n (total n) (keptAt n * g .q) z (enough n h)) in
+        q ∙ ap (passed p) (i .same) ∙ sym (next n h ∙ quiet p g n (total n) (keptAt n * g .q) (nothing-there n e) (enough n h)) in
         let l : getD ls n 0 ≡ 0 = sym (level-at n h) ∙ sym (ap (λ (t : Totals). t .prev) s) ∙ ap (λ (t : Totals). t .prev) q in
         record {
           place = omega arith;
@@ -192,6 +225,7 @@ module _ (p : Prices) (g : Scale) (w₀ : Walk) (side : ℕ) (kept held : List �
           ended = omega (arith, i .ended);
           tail =
               λ k m lt. below-next (λ (k : ℕ). end ≤ k → getD ls k 0 ≡ 0) (λ j lt le. i .tail j le lt) (λ le. l) k lt m;
+          rest = omega (arith, rest-next, none-more (keptAt n) e);
         }
 
     module _ (v : Walk) (q : totalsOf v ≡ step r n (totalsOf w) (keptAt n * g .q)) where
@@ -204,8 +238,9 @@ module _ (p : Prices) (g : Scale) (w₀ : Walk) (side : ℕ) (kept held : List �
       pub taken-small : v .prev ≤ 32767
       taken-small = omega (arith, taken, level-small n h)
 
-      pub steps : Walking (set levels (scanAt side side n) (v .prev)) v (n + 1) (n + 1)
-      steps =
+      pub steps : (e : ℕ) → e ≡ cond (isZero (v .prev)) end (n + 1) → (keptAt n ≡ 0 → ⊥)
+          → Walking (set levels (scanAt side side n) (v .prev)) v e (left - 1) (n + 1)
+      steps e f some =
           record {
             place = omega arith;
             room = length-set levels (scanAt side side n) (v .prev) ∙ i .room;
@@ -215,10 +250,20 @@ module _ (p : Prices) (g : Scale) (w₀ : Walk) (side : ℕ) (kept held : List �
                 (λ k lt. other k (omega arith) (λ e. let z : ⊥ = omega arith in z) ∙ i .done k lt)
                 (getD-set-same levels (scanAt side side n) (v .prev) 0 (omega (arith, inside n h, i .room)) ∙ taken);
             ahead = λ k m lt. other k lt (λ e. let z : ⊥ = omega arith in z) ∙ i .ahead k (omega arith) lt;
-            ended = omega arith;
-            tail = λ k m lt. absurd (let z : ⊥ = omega arith in z);
+            ended = ended-by (v .prev) f;
+            tail = tail-by (v .prev) f taken;
+            rest = omega (arith, rest-next, one-more (keptAt n) some);
           }
         where
+          ended-by : (a : ℕ) → e ≡ cond (isZero a) end (n + 1) → e ≤ n + 1
+          ended-by zero f = omega (arith, i .ended)
+          ended-by (suc a) f = omega arith
+
+          tail-by : (a : ℕ) → e ≡ cond (isZero a) end (n + 1) → a ≡ getD ls n 0 → (k : ℕ) → e ≤ k → k < n + 1 → getD ls k 0 ≡ 0
+          tail-by zero f t k m lt =
+              below-next (λ (k : ℕ). end ≤ k → getD ls k 0 ≡ 0) (λ j lt le. i .tail j le lt) (λ le. sym t) k lt (omega arith)
+          tail-by (suc a) f t k m lt = absurd (let z : ⊥ = omega arith in z)
+
           other : (k : ℕ) → k < side * side → k ≢ n
               → getD (set levels (scanAt side side n) (v .prev)) (scanAt side side k) 0 ≡ getD levels (scanAt side side k) 0
           other k lt ne = getD-set-other levels (scanAt side side n) (scanAt side side k) (v .prev) 0 (λ e. ne (apart k n lt h e))
@@ -226,16 +271,42 @@ module _ (p : Prices) (g : Scale) (w₀ : Walk) (side : ℕ) (kept held : List �
   behind-none : (k : ℕ) → side * side ≤ k → getD ls k 0 ≡ 0
   behind-none k h = lib.ListN.List·getD-eq-default ls 0 (omega (arith, length-walked r (isZero (w₀ .prev)) ps, count))
 
-  pub walked-over : (levels : List ℕ) (w : Walk) (end n : ℕ) → Walking levels w end n → side * side ≤ n
-      → WalkedOver p g w₀ side kept levels (record { walk = w; end = end })
-  walked-over levels w end n i h =
-      record {
-        is = i .same ∙ ap (walk r 0 (totalsOf w₀)) (take-all n ps (omega (arith, count)));
-        room = i .room;
-        levels = λ k l. i .done k (omega arith);
-        within = omega (arith, i .ended, i .place);
-        tail = λ k l. ⊎-elim (λ (q : k < n). i .tail k l q) (λ (q : n ≤ k). behind-none k (omega arith)) (below-or-not k n);
-      }
+  -- no place is left to step at: nothing is kept from n on
+  module _ (levels : List ℕ) (w : Walk) (end left n : ℕ) (i : Walking levels w end left n) (none : left ≡ 0) where
+    none-kept : (k : ℕ) → n ≤ k → k < side * side → keptAt k ≡ 0
+    none-kept k m lt =
+        let e : n + (k - n) ≡ k = omega arith in
+        sym (scan-at k lt)
+        ∙ ap (λ (j : ℕ). getD inScan j 0) (sym e)
+        ∙ sym (getD-drop n inScan (k - n) 0)
+        ∙ none-left (drop n inScan) (sym (i .rest) ∙ none) (k - n)
+
+    none-walked : (k : ℕ) → n ≤ k → getD ls k 0 ≡ 0
+    none-walked k m =
+        ⊎-elim (λ (lt : k < side * side). omega (arith, level-below k lt, nothing-there k (none-kept k m lt)))
+        (λ (le : side * side ≤ k). behind-none k le)
+        (below-or-not k (side * side))
+
+    quiet-behind : Quiet r (drop n ps)
+    unfolding ruleBy
+    quiet-behind k h =
+        let lt : n + k < side * side = omega (arith, length-drop n ps, count) in
+        ap (r .top) (getD-drop n ps k 0 ∙ place-at (n + k) lt) ∙ nothing-there (n + k) (none-kept (n + k) (omega arith) lt)
+
+    stopped : (walk r 0 (totalsOf w₀) ps .best ≡ total n .best) × (walk r 0 (totalsOf w₀) ps .cut ≡ total n .cut)
+    stopped = rw (← walk-parts r 0 (totalsOf w₀) ps n) (quiet-walk r (0 + n) (total n) (drop n ps) quiet-behind)
+
+    pub walked-over : WalkedOver p g w₀ side kept levels (record { walk = w; end = end })
+    walked-over =
+        record {
+          best = ap (λ (t : Totals). t .best) (i .same) ∙ sym (stopped .0);
+          cut = ap (λ (t : Totals). t .cut) (i .same) ∙ sym (stopped .1);
+          room = i .room;
+          levels =
+              λ k l. ⊎-elim (λ (q : k < n). i .done k q) (λ (q : n ≤ k). i .ahead k q l ∙ sym (none-walked k q)) (below-or-not k n);
+          within = omega (arith, i .ended, i .place);
+          tail = λ k l. ⊎-elim (λ (q : k < n). i .tail k l q) (λ (q : n ≤ k). none-walked k q) (below-or-not k n);
+        }
 
 -- ---- the cut
 cut-at : (c : ℕ) (ls : List ℕ) (k : ℕ) → getD (cutAt c ls) k 0 ≡ cond (ltb k c) (getD ls k 0) 0
@@ -274,10 +345,10 @@ pub cut-over : (p : Prices) (g : Scale) (w₀ : Walk) (side : ℕ) (kept before 
 cut-over p g w₀ side kept before after whole o c =
     let ls = walked (ruleBy p g) (isZero (w₀ .prev)) (keptPlaces g side kept) in
     record {
-      price = ap (λ (t : Totals). t .best) (o .is);
+      price = o .best;
       room = c .room;
       levels =
-          subst (λ (k : ℕ). Standing side after (cutAt k ls)) (ap (λ (t : Totals). t .cut) (o .is))
+          subst (λ (k : ℕ). Standing side after (cutAt k ls)) (o .cut)
           (cut-levels side (whole .walk .cut) (whole .end) ls before after (o .levels) (o .tail) c);
     }
 

@@ -4,7 +4,8 @@ use mathlib.Core.Path.{_≡_, sym, ap, _∙_}
 use mathlib.Core.Logic.{_⊎_, inl, inr}
 use Prim.Native.Nat.{ℕ, zero, suc, _+_, _-_, _*_, _/_, _≤_, _<_, _^_}
 use native.Mathlib.Omega.{arith}
-use native.Mathlib.Nat.{mul-le-mul-left, mul-le-mul}
+use native.Mathlib.Nat.{mul-le-mul-left, mul-le-mul-right, mul-le-mul, mul-mul-mul-comm, suc-mul}
+use native.Mathlib.Numerals.{add-one}
 use lib.IntN.{ℤ, natAbs}
 use Rattle.price.specs.Level.{scaled, square}
 use Rattle.price.proofs.Level.{distortion-of-0}
@@ -14,13 +15,18 @@ use Rattle.quantise.specs.Code.{Sound, Held, zeroDistortion}
 abbrev pub zeroError : Scale → ℕ → ℕ
 zeroError g a = a * g .front - (a * g .rest + 1048575) / 1048576
 
+-- no square of an error of magnitude 0 is above this
+abbrev pub mostSquare : Scale → ℕ
+mostSquare g = 2 ^ 30 * (g .front * g .front)
+
 -- what the parts of the error come to
 pub record Parts (g : Scale) (a : ℕ) : Type 0 where
   pub first : a * g .front ≤ 2 ^ 29
   pub second : a * g .rest ≤ 2 ^ 30
   pub room : (a * g .rest + 1048575) / 1048576 ≤ a * g .front
   pub error : zeroError g a ≤ 2 ^ 29
-  pub square : zeroError g a * zeroError g a ≤ 2 ^ 58
+  pub square : zeroError g a * zeroError g a ≤ mostSquare g
+  pub fits : mostSquare g ≤ 2 ^ 58
 
 pub parts : (g : Scale) → Sound g → (a : ℕ) → a ≤ 32767 → Parts g a
 parts g s a h =
@@ -31,12 +37,31 @@ parts g s a h =
     let under : g .rest ≤ g .front * 1048576 = omega (arith, s .some-front) in
     let t : a * g .rest ≤ a * (g .front * 1048576) = mul-le-mul-left a under in
     let u : a * (g .front * 1048576) ≡ a * g .front * 1048576 = law a in
-    let e : a * g .front - (a * g .rest + 1048575) / 1048576 ≤ 2 ^ 29 = omega (arith, x) in
-    record { first = omega (arith, x); second = omega (arith, y); room = omega (arith, t, u); error = e; square = omega (arith, mul-le-mul e e) }
+    let v : a * g .front ≤ 32768 * g .front = mul-le-mul-right (g .front) m in
+    let e : zeroError g a ≤ 32768 * g .front = omega (arith, v) in
+    record {
+      first = omega (arith, x);
+      second = omega (arith, y);
+      room = omega (arith, t, u);
+      error = omega (arith, x);
+      square = omega (arith, mul-le-mul e e, mul-mul-mul-comm 32768 (g .front) 32768 (g .front));
+      fits = omega (arith, mul-le-mul (s .wide-front) (s .wide-front));
+    }
   where
     law : (n : ℕ) → n * (g .front * 1048576) ≡ n * g .front * 1048576
     law zero = omega arith
     law (suc n) = omega (arith, law n)
+
+-- the sum of the squares of a part
+pub squares-next : (i k s x : ℕ) → s ≤ i * k → x ≤ k → s + x ≤ (i + 1) * k
+squares-next i k s x h l = omega (arith, ap (λ (n : ℕ). n * k) (add-one i), suc-mul i k)
+
+pub squares-fit : (g : Scale) (n i : ℕ) → i ≤ n → n * (g .front * g .front) ≤ 2 ^ 33 → i * mostSquare g ≤ 2 ^ 63
+squares-fit g n i h f = omega (arith, mul-le-mul-right (mostSquare g) h, law n)
+  where
+    law : (k : ℕ) → k * mostSquare g ≡ k * (g .front * g .front) * 2 ^ 30
+    law zero = omega arith
+    law (suc k) = omega (arith, law k, suc-mul k (mostSquare g), suc-mul k (g .front * g .front))
 
 error-is : (g : Scale) → Sound g → (a : ℕ) → a * g .q * g .error / 2 ^ 20 ≡ zeroError g a
 error-is g s a = omega (arith, law a)

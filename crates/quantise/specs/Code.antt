@@ -168,6 +168,12 @@ pub record PartEnd (i n most e : ℕ) : Type 0 where
 abbrev pub keptOf : Scale → ℤ → ℕ
 keptOf g z = cond (leb (g .least) (natAbs z)) (natAbs z) 0
 
+-- what is kept of a block, by rows, and how many of them are not 0
+pub record KeptAs (g : Scale) (block : List ℤ) (kept : List ℕ) (r : ℕ) : Type 0 where
+  pub room : length kept ≡ length block
+  pub each : (k : ℕ) → k < length block → getD kept k 0 ≡ keptOf g (at block k)
+  pub count : r ≡ nonzeros kept
+
 -- ---- one place of the walk
 -- the error of a magnitude near L is no larger than that of 0
 pub record Near (g : Scale) (L a : ℕ) : Type 0 where
@@ -251,9 +257,10 @@ Standing side magnitudes ls = (k : ℕ) → k < side * side → getD magnitudes 
 abbrev pub Cleared : List ℕ → Type 0
 Cleared magnitudes = (k : ℕ) → getD magnitudes k 0 ≡ 0
 
--- the walk from w: its totals, and its magnitudes, all of which are 0 from `end` on
+-- the walk from w: its best price and its cut, and its magnitudes, all of which are 0 from `end` on
 pub record WalkedOver (p : Prices) (g : Scale) (w : Walk) (side : ℕ) (kept after : List ℕ) (r : Walked) : Type 0 where
-  pub is : totalsOf (r .walk) ≡ walk (ruleBy p g) 0 (totalsOf w) (keptPlaces g side kept)
+  pub best : r .walk .best ≡ walk (ruleBy p g) 0 (totalsOf w) (keptPlaces g side kept) .best
+  pub cut : r .walk .cut ≡ walk (ruleBy p g) 0 (totalsOf w) (keptPlaces g side kept) .cut
   pub room : length after ≡ side * side
   pub levels : Standing side after (walked (ruleBy p g) (isZero (w .prev)) (keptPlaces g side kept))
   pub within : r .end ≤ side * side

@@ -7,24 +7,29 @@ use crate::walk::Walk;
 use crate::walk::choose_levels;
 use tables::scan::fill_scan;
 ghost use mathlib.Core.Path.{_≡_};
-ghost use Prim.Native.Nat.{ℕ, _≤_, _<_, _^_};
+ghost use Prim.Native.Nat.{ℕ, _≤_, _^_};
 ghost use lib.ListN.{length, getD};
-ghost use Rattle.integers.specs.Sum.{at};
 ghost use Rattle.price.specs.Price.{nonzeros};
 ghost use Rattle.quantise.specs.Block.{signs};
-ghost use Rattle.quantise.specs.Code.{Sound, Within, keptOf, Codable, CodedAs};
+ghost use Rattle.quantise.specs.Code.{KeptAs, Cleared, Codable, CodedAs};
 
-// |c| where its m is above 0, else 0.
-fn keep(block: &[i16], kept: &mut [u16], g: Scale)
-    requires { ⌜ (length (now kept) ≡ length (now block)) ⌝ }
-    ensures { λ _. ⌜ (length (now (kept .exit)) ≡ length (now (block .entry))) × ((k : ℕ) → k < length (now (block .entry)) → getD (now (kept .exit)) k 0 ≡ keptOf g (at (now (block .entry)) k)) ⌝ }
+// |c| where its m is above 0, else 0; how many are not 0.
+fn keep(block: &[i16], kept: &mut [u16], g: Scale) -> usize
+    requires { ⌜ (length (now kept) ≡ length (now block)) × (length (now block) ≤ 4096) ⌝ }
+    ensures { λ r. ⌜ KeptAs g (now (block .entry)) (now (kept .exit)) r ⌝ }
 {
+    let mut count: u16 = 0;
     let mut i = 0;
     while i < block.len() {
-        let a = magnitude(block[i]);
-        kept[i] = if g.least <= a { a as u16 } else { 0 };
+        let a = magnitude(block[i]) as u16;
+        let v = if g.least <= a { a } else { 0 };
+        kept[i] = v;
+        if v != 0 {
+            count += 1;
+        }
         i += 1;
     }
+    count as usize
 }
 
 // Each magnitude with its coefficient's sign, in the coefficient's place; how many are not 0.
@@ -32,7 +37,7 @@ fn put_signs(block: &mut [i16], levels: &[u16]) -> u32
     requires { ⌜ (length (now levels) ≡ length (now block)) × (length (now block) ≤ 4096) × ((k : ℕ) → getD (now levels) k 0 ≤ 32767) ⌝ }
     ensures { λ r. ⌜ (now (block .exit) ≡ signs (now (block .entry)) (now (levels .entry))) × (r ≡ nonzeros (now (levels .entry))) ⌝ }
 {
-    let mut count: u32 = 0;
+    let mut count: u16 = 0;
     let mut i = 0;
     while i < levels.len() {
         let a = levels[i] as i16;
@@ -42,29 +47,108 @@ fn put_signs(block: &mut [i16], levels: &[u16]) -> u32
         }
         i += 1;
     }
-    count
+    count as u32
 }
 
-// The levels of a block whose D is d, and what they cost.
-pub fn code_levels(block: &mut [i16], log2_side: usize, p: Prices, g: Scale, d: u64) -> Coded
-    requires { ⌜ (1 ≤ «log2_side») × («log2_side» ≤ 5) × Codable p g (2 ^ «log2_side») (now block) d ⌝ }
+// The levels of a block whose D is d, and what they cost, worked out in rooms that have the block's length.
+fn code_in(
+    block: &mut [i16],
+    log2_side: usize,
+    p: Prices,
+    g: Scale,
+    d: u64,
+    scan: &mut [u16],
+    kept: &mut [u16],
+    levels: &mut [u16],
+) -> Coded
+    requires { ⌜ (1 ≤ «log2_side») × («log2_side» ≤ 5) × Codable p g (2 ^ «log2_side») (now block) d × (length (now scan) ≡ length (now block)) × (length (now kept) ≡ length (now block)) × (length (now levels) ≡ length (now block)) × Cleared (now levels) ⌝ }
     ensures { λ r. ⌜ CodedAs p g (2 ^ «log2_side») (now (block .entry)) (now (block .exit)) r ⌝ }
 {
-    let n = block.len();
     let one: usize = 1;
     let side = one << (log2_side as u32);
-    let mut scan = [0u16; 1024];
-    fill_scan(log2_side, &mut scan[..n]);
-    let mut kept = [0u16; 1024];
-    keep(block, &mut kept[..n], g);
-    let mut levels = [0u16; 1024];
+    fill_scan(log2_side, scan);
+    let held = keep(block, kept, g);
     let first = Walk {
         base: d + p.coded,
         best: d + p.empty,
         cut: 0,
         prev: 1,
     };
-    let price = choose_levels(&kept[..n], &mut levels[..n], &scan[..n], side, p, g, first);
-    let count = put_signs(block, &levels[..n]);
+    let price = choose_levels(kept, levels, scan, side, p, g, first, held);
+    let count = put_signs(block, levels);
     Coded { count, price }
+}
+
+// The rooms are as large as the blocks of a side need: to clear them takes time.
+fn code_small(block: &mut [i16], log2_side: usize, p: Prices, g: Scale, d: u64) -> Coded
+    requires { ⌜ (1 ≤ «log2_side») × («log2_side» ≤ 3) × Codable p g (2 ^ «log2_side») (now block) d ⌝ }
+    ensures { λ r. ⌜ CodedAs p g (2 ^ «log2_side») (now (block .entry)) (now (block .exit)) r ⌝ }
+{
+    let n = block.len();
+    let mut scan = [0u16; 64];
+    let mut kept = [0u16; 64];
+    let mut levels = [0u16; 64];
+    code_in(
+        block,
+        log2_side,
+        p,
+        g,
+        d,
+        &mut scan[..n],
+        &mut kept[..n],
+        &mut levels[..n],
+    )
+}
+
+fn code_middle(block: &mut [i16], log2_side: usize, p: Prices, g: Scale, d: u64) -> Coded
+    requires { ⌜ (1 ≤ «log2_side») × («log2_side» ≤ 4) × Codable p g (2 ^ «log2_side») (now block) d ⌝ }
+    ensures { λ r. ⌜ CodedAs p g (2 ^ «log2_side») (now (block .entry)) (now (block .exit)) r ⌝ }
+{
+    let n = block.len();
+    let mut scan = [0u16; 256];
+    let mut kept = [0u16; 256];
+    let mut levels = [0u16; 256];
+    code_in(
+        block,
+        log2_side,
+        p,
+        g,
+        d,
+        &mut scan[..n],
+        &mut kept[..n],
+        &mut levels[..n],
+    )
+}
+
+fn code_large(block: &mut [i16], log2_side: usize, p: Prices, g: Scale, d: u64) -> Coded
+    requires { ⌜ (1 ≤ «log2_side») × («log2_side» ≤ 5) × Codable p g (2 ^ «log2_side») (now block) d ⌝ }
+    ensures { λ r. ⌜ CodedAs p g (2 ^ «log2_side») (now (block .entry)) (now (block .exit)) r ⌝ }
+{
+    let n = block.len();
+    let mut scan = [0u16; 1024];
+    let mut kept = [0u16; 1024];
+    let mut levels = [0u16; 1024];
+    code_in(
+        block,
+        log2_side,
+        p,
+        g,
+        d,
+        &mut scan[..n],
+        &mut kept[..n],
+        &mut levels[..n],
+    )
+}
+
+pub fn code_levels(block: &mut [i16], log2_side: usize, p: Prices, g: Scale, d: u64) -> Coded
+    requires { ⌜ (1 ≤ «log2_side») × («log2_side» ≤ 5) × Codable p g (2 ^ «log2_side») (now block) d ⌝ }
+    ensures { λ r. ⌜ CodedAs p g (2 ^ «log2_side») (now (block .entry)) (now (block .exit)) r ⌝ }
+{
+    if log2_side <= 3 {
+        code_small(block, log2_side, p, g, d)
+    } else if log2_side == 4 {
+        code_middle(block, log2_side, p, g, d)
+    } else {
+        code_large(block, log2_side, p, g, d)
+    }
 }

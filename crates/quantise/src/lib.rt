@@ -16,6 +16,7 @@ use price::lambda_refused;
 use price::lambda_whole;
 use refusals::Component;
 use refusals::Refusal;
+use refusals::no_side;
 ghost use mathlib.Core.Path.{_≡_};
 ghost use mathlib.Core.Bool.{false};
 ghost use Prim.Native.Nat.{_≤_, _*_, _^_};
@@ -96,10 +97,7 @@ pub fn quant_nnz(
     ensures answer { λ r. ⌜ paperOf r ≡ quantAnswer (called (now (block .entry)) «log2_side» component settings «intra_slice» «intra_coded» costs) ⌝ }
     ensures buffer { λ _. ⌜ now (block .exit) ≡ quantBuffer (called (now (block .entry)) «log2_side» component settings «intra_slice» «intra_coded» costs) ⌝ }
 {
-    if log2_side < 1 {
-        return QuantAnswer::Refused(Refusal::Side, Component::Y);
-    }
-    if 5 < log2_side {
+    if no_side(log2_side) {
         return QuantAnswer::Refused(Refusal::Side, Component::Y);
     }
     if 63 < settings.qp {

@@ -16,7 +16,7 @@ pub struct Scale {
     pub error: u64,
     pub front: u32,
     pub rest: u32,
-    pub least: u32,
+    pub least: u16,
 }
 
 pub fn scale_of(log2_side: usize, qp: u32) -> Scale
@@ -41,7 +41,7 @@ pub fn scale_of(log2_side: usize, qp: u32) -> Scale
         error,
         front: front as u32,
         rest: rest as u32,
-        least: least as u32,
+        least: least as u16,
     }
 }
 

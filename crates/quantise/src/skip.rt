@@ -18,7 +18,7 @@ pub fn magnitude(c: i16) -> u32
     }
 }
 
-fn larger(a: u32, b: u32) -> u32
+fn larger(a: u16, b: u16) -> u16
     ensures { λ r. ⌜ r ≡ max a b ⌝ }
 {
     if a < b { b } else { a }
@@ -27,13 +27,13 @@ fn larger(a: u32, b: u32) -> u32
 pub fn largest(part: &[i16]) -> u32
     ensures { λ r. ⌜ Largest (now (part .entry)) r ⌝ }
 {
-    let mut top: u32 = 0;
+    let mut top: u16 = 0;
     let mut i = 0;
     while i < part.len() {
-        top = larger(top, magnitude(part[i]));
+        top = larger(top, magnitude(part[i]) as u16);
         i += 1;
     }
-    top
+    top as u32
 }
 
 // Where the part that starts at i ends.

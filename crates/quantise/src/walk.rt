@@ -6,9 +6,12 @@ use tables::scan::magnitude_at;
 use tables::scan::put_magnitude;
 use tables::scan::scan_place;
 ghost use mathlib.Core.Path.{_≡_};
-ghost use Prim.Native.Nat.{_≤_, _*_, _^_};
+ghost use mathlib.Core.Bool.{cond};
+ghost use Prim.Native.Nat.{_≤_, _<_, _+_, _*_, _^_};
 ghost use lib.ListN.{length};
 ghost use Rattle.price.specs.Level.{magnitude};
+ghost use Rattle.price.specs.Rule.{isZero};
+ghost use Rattle.price.specs.Price.{nonzeros};
 ghost use Rattle.price.specs.OnePass.{step};
 ghost use Rattle.quantise.specs.Code.{Sound, Near, Distortion, Modest, Fine, Offered, Ready, Scanned, Begins, Cleared, WalkedOver, CutBehind, CutOver, totalsOf, passed, ruleBy};
 
@@ -124,12 +127,21 @@ impl Walk {
     }
 }
 
-// The totals at the end, and how many places come up to and with the last whose m is above 0.
+// The totals where the walk stops, and how many places come up to and with the last nonzero level.
 pub struct Walked {
     pub walk: Walk,
     pub end: usize,
 }
 
+// How many places come up to and with the last nonzero level, now that place n has taken `level`.
+fn end_with(level: u64, n: usize, end: usize) -> usize
+    requires { ⌜ n < 4096 ⌝ }
+    ensures { λ r. ⌜ r ≡ cond (isZero level) end (n + 1) ⌝ }
+{
+    if level == 0 { end } else { n + 1 }
+}
+
+// `count` places have an m above 0. The walk stops behind the last of them: the others change neither the best price nor the cut.
 fn walk_places(
     kept: &[u16],
     levels: &mut [u16],
@@ -138,14 +150,16 @@ fn walk_places(
     p: Prices,
     g: Scale,
     first: Walk,
+    count: usize,
 ) -> Walked
-    requires { ⌜ Scanned side (now scan) × Begins p g first side (now kept) × (length (now levels) ≡ side * side) × Cleared (now levels) ⌝ }
+    requires { ⌜ Scanned side (now scan) × Begins p g first side (now kept) × (count ≡ nonzeros (now kept)) × (length (now levels) ≡ side * side) × Cleared (now levels) ⌝ }
     ensures { λ r. ⌜ WalkedOver p g first side (now (kept .entry)) (now (levels .exit)) r ⌝ }
 {
     let mut w = first;
+    let mut left = count;
     let mut end = 0;
     let mut n = 0;
-    while n < scan.len() {
+    while 0 < left {
         let place = block_place(scan, side, side, scan_place(n));
         let a = magnitude_at(kept, place);
         if a == 0 {
@@ -153,7 +167,8 @@ fn walk_places(
         } else {
             w = w.step(n, p, g, a as u64 * g.q as u64);
             put_magnitude(levels, place, w.prev as u16);
-            end = n + 1;
+            end = end_with(w.prev, n, end);
+            left -= 1;
         }
         n += 1;
     }
@@ -180,11 +195,12 @@ pub fn choose_levels(
     p: Prices,
     g: Scale,
     first: Walk,
+    count: usize,
 ) -> u64
-    requires { ⌜ Scanned side (now scan) × Begins p g first side (now kept) × (length (now levels) ≡ side * side) × Cleared (now levels) ⌝ }
+    requires { ⌜ Scanned side (now scan) × Begins p g first side (now kept) × (count ≡ nonzeros (now kept)) × (length (now levels) ≡ side * side) × Cleared (now levels) ⌝ }
     ensures { λ r. ⌜ CutOver p g first side (now (kept .entry)) (now (levels .exit)) r ⌝ }
 {
-    let walked = walk_places(kept, levels, scan, side, p, g, first);
+    let walked = walk_places(kept, levels, scan, side, p, g, first, count);
     let w = walked.walk;
     cut_behind(levels, scan, side, w.cut, walked.end);
     w.best

@@ -2,6 +2,7 @@
 // paper's number for each, and how a call's refusal comes from the list of its faults: it is the first that holds.
 ghost use mathlib.Core.Path.{_≡_};
 ghost use Rattle.refusals.specs.Numbers.{numberOf, componentOf};
+ghost use Rattle.refusals.specs.Faults.{outside};
 
 pub enum Refusal {
     Side,
@@ -46,4 +47,14 @@ pub fn component_number(component: Component) -> u32
         Component::U => 1,
         Component::V => 2,
     }
+}
+
+// 1 SIDE, of one log2 side.
+pub fn no_side(log2: usize) -> bool
+    ensures { λ r. ⌜ r ≡ outside 1 5 log2 ⌝ }
+{
+    if log2 < 1 {
+        return true;
+    }
+    5 < log2
 }

@@ -12,18 +12,38 @@ pub struct ScanPlace(usize);
 
 pub struct BlockPlace(usize);
 
-// The scan of a square block of side 2^log2, for the lookup: taken once a call.
+fn copy(from: &[u16], to: &mut [u16])
+    requires { ⌜ (length (now from) ≡ length (now to)) × (length (now to) ≤ 1024) ⌝ }
+    ensures { λ _. ⌜ now (to .exit) ≡ now (from .entry) ⌝ }
+{
+    let n = to.len();
+    let mut i = 0;
+    while i < n {
+        to[i] = from[i];
+        i += 1;
+    }
+}
+
+// The scan of a square block of side 2^log2, for the lookup: taken once a call. A call writes out the list of its side alone.
 pub fn fill_scan(log2: usize, held: &mut [u16])
     requires { ⌜ (1 ≤ log2) × (log2 ≤ 5) × (length (now held) ≡ 4 ^ log2) ⌝ }
     ensures { λ _. ⌜ now (held .exit) ≡ square log2 ⌝ }
 {
-    let table = SCANS;
-    let from = crate::start(log2);
-    let n = held.len();
-    let mut p = 0;
-    while p < n {
-        held[p] = table[from + p];
-        p += 1;
+    if log2 == 1 {
+        let list = SCANS.two;
+        copy(&list, held);
+    } else if log2 == 2 {
+        let list = SCANS.four;
+        copy(&list, held);
+    } else if log2 == 3 {
+        let list = SCANS.eight;
+        copy(&list, held);
+    } else if log2 == 4 {
+        let list = SCANS.sixteen;
+        copy(&list, held);
+    } else {
+        let list = SCANS.thirtytwo;
+        copy(&list, held);
     }
 }
 

@@ -1,14 +1,13 @@
 -- The call's faults one after the other, as its code meets them: what the verdict and the buffer are where one holds, and where none
 -- does. The coefficients depend on nothing behind the block.
 -- Assumes nothing.
-use mathlib.Core.Path.{_≡_, refl, sym, _∙_, ap}
-use mathlib.Core.Bool.{Bool, true, false, not, _&&_}
+use mathlib.Core.Path.{_≡_, sym, _∙_, ap}
+use mathlib.Core.Bool.{true, false}
 use mathlib.Core.List.{List, _++_}
-use Prim.Native.Nat.{ℕ, _+_, _*_, _/_, _%_, _^_, _≤_}
+use Prim.Native.Nat.{ℕ, _+_, _*_, _/_, _%_, _^_}
 use native.Mathlib.Nat.{mul-comm}
 use native.Mathlib.Omega.{arith}
-use borrow.Author.Tests.{leb-true}
-use lib.Dec.{ltb, leb}
+use lib.Dec.{ltb}
 use lib.ListN.{length, take, drop}
 use lib.Seq.{getD-take}
 use lib.IntN.{ℤ, pos, _*ℤ_}
@@ -23,14 +22,6 @@ use Rattle.tables.specs.Matrix.{matrix}
 use Rattle.refusals.specs.Faults.{Verdict, accepted, refused, ifAccepted, outside}
 use Rattle.transform.specs.Coefficients.{product, coefficient, coefficients}
 use Rattle.transform.specs.Call.{called, wild, transVerdict, transformed, transBuffer}
-
-within : (a b : Bool) → not (a && b) ≡ false → (a ≡ true) × (b ≡ true)
-within true true e = (refl, refl)
-within true false e = absurd (let z : _≡_ {A = ℕ} 0 1 = cc in let no : ⊥ = omega arith in no)
-within false b e = absurd (let z : _≡_ {A = ℕ} 0 1 = cc in let no : ⊥ = omega arith in no)
-
-pub a-side : (n : ℕ) → outside 1 5 n ≡ false → (1 ≤ n) × (n ≤ 5)
-a-side n e = let b = within (leb 1 n) (leb n 5) e in (leb-true 1 n (b .0), leb-true n 5 (b .1))
 
 module _ (buffer : List ℤ) (lw lh : ℕ) where
   -- refused with this number, and nothing changed

@@ -2,9 +2,9 @@
 use block::side;
 use block::transform;
 use refusals::Refusal;
+use refusals::no_side;
 ghost use mathlib.Core.Path.{_≡_};
 ghost use Rattle.integers.specs.Tests.{some};
-ghost use Rattle.refusals.specs.Faults.{outside};
 ghost use Rattle.transform.specs.Call.{called, paperOf, transBuffer, transVerdict, wild};
 
 mod block;
@@ -16,15 +16,6 @@ mod wide;
 pub enum TransAnswer {
     Accepted,
     Refused(Refusal),
-}
-
-fn no_side(log2: usize) -> bool
-    ensures { λ r. ⌜ r ≡ outside 1 5 log2 ⌝ }
-{
-    if log2 < 1 {
-        return true;
-    }
-    5 < log2
 }
 
 // Whether some residual is outside ±1023.

@@ -1,10 +1,41 @@
--- `price::costs_refused` meets its contract: each test says what one table of the definition comes to.
+-- `price::costs_refused` meets its contract: each table's answer is what one part of the definition comes to.
 -- Assumes nothing.
-use mathlib.Core.Path.{sym, _∙_}
+use mathlib.Core.Path.{_≡_, refl, _∙_}
+use mathlib.Core.Logic.{⊎-elim}
+use mathlib.Core.Bool.{Bool, true, false, _||_}
 use borrow.Author.Needs.{needs}
-use Rattle.price.specs.Costs.{costRefused}
+use Rattle.integers.specs.Tests.{some}
+use Rattle.price.specs.Costs.{dear, costRefused}
 use Rattle.price.proofs.costs_refused.Statement.{statement}
 use Rattle.price.proofs.costs_refused.Tie as tie
+
+-- the answer so far, by the way it came
+came-true : (x a b : Bool) → a ≡ true → x ≡ a → x ≡ (a || b)
+came-true x true b e q = q
+came-true x false b e q = cc
+
+came-false : (x a b : Bool) → a ≡ false → x ≡ b → x ≡ (a || b)
+came-false x true b e q = cc
+came-false x false b e q = q
+
+joined : (a b c d : Bool) → (((a || b) || c) || d) ≡ (a || b || c || d)
+joined true b c d = refl
+joined false true c d = refl
+joined false false c d = refl
+
+two : (c : tie.Joined1) → c .if1 .if2 ≡ (c .before .before .before .before .before .before .before .some-dear .result || c .before .before .before .before .before .some-dear2 .result)
+two c = ⊎-elim (λ w. came-true _ _ _ (w .0 .taken) (w .1)) (λ w. came-false _ _ _ (w .0 .left) (w .1)) (c .if1 .came)
+
+three : (c : tie.Joined2) → c .if2 .if3 ≡ (c .before .if1 .if2 || c .before .before .before .before .some-dear3 .result)
+three c = ⊎-elim (λ w. came-true _ _ _ (w .0 .taken) (w .1)) (λ w. came-false _ _ _ (w .0 .left) (w .1)) (c .if2 .came)
+
+all : (c : tie.Joined2) → (c .if2 .if3 || c .before .before .some-dear4 .result) ≡ costRefused (c .before .before .before .before .before .before .before .before .before .before .before .before .before .before .args .t)
+unfolding costRefused
+all c =
+    let j = c .before .before in
+    let t = j .before .before .before .before .before .before .before .before .before .before .before .before .args .t in
+    rw (three c, two (c .before), j .before .before .before .before .before .before .some-dear .ensures, j .before .before .before .before .some-dear2 .ensures, j .before .before .some-dear3 .ensures, j .some-dear4 .ensures)
+    (joined (some dear (t .run)) (some dear (t .level)) (some dear (t .last)) (some dear (t .cbf)))
 
 slice-aggregate-some-dear : tie.Need-slice-aggregate-some-dear
 slice-aggregate-some-dear c = search needs
@@ -12,21 +43,11 @@ slice-aggregate-some-dear c = search needs
 some-dear-requires : tie.Need-some-dear-requires
 some-dear-requires c κs = search needs
 
-returns : tie.Need-returns
-unfolding costRefused
-returns c = rw (sym (c .before .some-dear .ensures) ∙ c .if1 .taken)
-
 slice-aggregate-some-dear-2 : tie.Need-slice-aggregate-some-dear-2
 slice-aggregate-some-dear-2 c = search needs
 
 some-dear-requires-2 : tie.Need-some-dear-requires-2
 some-dear-requires-2 c κs = search needs
-
-returns-2 : tie.Need-returns-2
-unfolding costRefused
-returns-2 c =
-    let run = c .before .before .before .before in
-    rw (sym (run .before .some-dear .ensures) ∙ run .if1 .left, sym (c .before .some-dear2 .ensures) ∙ c .if2 .taken)
 
 slice-aggregate-some-dear-3 : tie.Need-slice-aggregate-some-dear-3
 slice-aggregate-some-dear-3 c = search needs
@@ -34,35 +55,17 @@ slice-aggregate-some-dear-3 c = search needs
 some-dear-requires-3 : tie.Need-some-dear-requires-3
 some-dear-requires-3 c κs = search needs
 
-returns-3 : tie.Need-returns-3
-unfolding costRefused
-returns-3 c =
-    let level = c .before .before .before .before in
-    let run = level .before .before .before .before in
-    rw (
-      sym (run .before .some-dear .ensures) ∙ run .if1 .left,
-      sym (level .before .some-dear2 .ensures) ∙ level .if2 .left,
-      sym (c .before .some-dear3 .ensures) ∙ c .if3 .taken,
-    )
-
 slice-aggregate-some-dear-4 : tie.Need-slice-aggregate-some-dear-4
 slice-aggregate-some-dear-4 c = search needs
 
 some-dear-requires-4 : tie.Need-some-dear-requires-4
 some-dear-requires-4 c κs = search needs
 
-returns-4 : tie.Need-returns-4
-unfolding costRefused
-returns-4 c =
-    let last = c .before .before .before in
-    let level = last .before .before .before .before in
-    let run = level .before .before .before .before in
-    rw (
-      sym (run .before .some-dear .ensures) ∙ run .if1 .left,
-      sym (level .before .some-dear2 .ensures) ∙ level .if2 .left,
-      sym (last .before .some-dear3 .ensures) ∙ last .if3 .left,
-    )
-    (c .some-dear4 .ensures)
+returns : tie.Need-returns
+returns c = came-true _ _ _ (c .if3 .taken) refl ∙ all (c .before)
+
+returns-2 : tie.Need-returns-2
+returns-2 c = came-false _ _ _ (c .if3 .left) refl ∙ all (c .before)
 
 pub costs-refused-spec : {M : Type 1} → statement M
 costs-refused-spec =
@@ -70,13 +73,11 @@ costs-refused-spec =
     (tie.spec
     slice-aggregate-some-dear
     some-dear-requires
-    returns
     slice-aggregate-some-dear-2
     some-dear-requires-2
-    returns-2
     slice-aggregate-some-dear-3
     some-dear-requires-3
-    returns-3
     slice-aggregate-some-dear-4
     some-dear-requires-4
-    returns-4)
+    returns
+    returns-2)

@@ -14,9 +14,10 @@ use lib.Seq.{length-take-le}
 use lib.IntN.{ℤ}
 use Rattle.integers.specs.Tests.{some}
 use Rattle.integers.proofs.Some.{none-above}
+use Rattle.refusals.proofs.First.{inside}
 use Rattle.transform.specs.Call.{wild}
 use Rattle.transform.specs.Coefficients.{coefficients}
-use Rattle.transform.proofs.Verdict.{a-side, no-width, no-height, too-short, too-wild, no-fault, changed, coefficients-front}
+use Rattle.transform.proofs.Verdict.{no-width, no-height, too-short, too-wild, no-fault, changed, coefficients-front}
 use Rattle.transform.proofs.trans.Statement.{statement}
 use Rattle.transform.proofs.trans.Tie as tie
 
@@ -50,7 +51,7 @@ side-requires c κs =
     let lw = a .args .log2-w in
     let lh = a .args .log2-h in
     let hw = sym (c .before .before .before .no-side .ensures) ∙ c .before .before .if1 .left in
-    a-side lw hw
+    inside 1 5 lw hw
 
 side-requires-2 : tie.Need-side-requires-2
 side-requires-2 c κs =
@@ -59,7 +60,7 @@ side-requires-2 c κs =
     let lw = a .args .log2-w in
     let lh = a .args .log2-h in
     let hh = sym (c .before .before .no-side2 .ensures) ∙ c .before .if2 .left in
-    a-side lh hh
+    inside 1 5 lh hh
 
 mul-n : tie.Need-mul-n
 mul-n c = omega (arith, mul-le-mul (c .before .side .ensures .1) (c .side2 .ensures .1))
@@ -137,8 +138,8 @@ transform-requires c κs =
     let n = c .before .before .before .before .before .before .side .result * c .before .before .before .before .before .side2 .result in
     let e : n ≡ 2 ^ lw * 2 ^ lh =
     ap (λ (m : ℕ). m * c .before .before .before .before .before .side2 .result) (c .before .before .before .before .before .before .side .ensures .0) ∙ ap (λ (m : ℕ). 2 ^ lw * m) (c .before .before .before .before .before .side2 .ensures .0) in
-    let w = a-side lw hw in
-    let h = a-side lh hh in (
+    let w = inside 1 5 lw hw in
+    let h = inside 1 5 lh hh in (
       (w .0, w .1, h .0, h .1),
       (
         length-take-le n r (c .before .before .before .before .if3 .left) ∙ e,

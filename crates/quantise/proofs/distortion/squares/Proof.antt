@@ -13,13 +13,13 @@ use Rattle.integers.specs.Sum.{over, onℕ}
 use Rattle.integers.proofs.Sums.{nats}
 use Rattle.integers.proofs.Over.{over-next, over-end}
 use Rattle.quantise.specs.Code.{zeroDistortion}
-use Rattle.quantise.proofs.Uncoding.{zeroError, Parts, parts, zero-distortion}
+use Rattle.quantise.proofs.Uncoding.{zeroError, mostSquare, Parts, parts, squares-next, squares-fit, zero-distortion}
 use Rattle.quantise.proofs.distortion.squares.Statement.{statement}
 use Rattle.quantise.proofs.distortion.squares.Tie as tie
 
 abbrev Inv-loop : tie.InvT-loop
 Inv-loop part g sum₀ i₀ sum i =
-    (i ≤ length part) × (sum + over onℕ (zeroDistortion g) (drop i part) ≡ over onℕ (zeroDistortion g) part) × (sum ≤ i * 2 ^ 58)
+    (i ≤ length part) × (sum + over onℕ (zeroDistortion g) (drop i part) ≡ over onℕ (zeroDistortion g) part) × (sum ≤ i * mostSquare g)
 
 abbrev μ-loop : tie.MeasureT-loop
 μ-loop part g sum₀ i₀ sum i = length part - i
@@ -65,13 +65,23 @@ cast-x : tie.Need-cast-x Inv-loop μ-loop
 cast-x c = record { fits = omega (arith, bounds (c .before .before) .error) }
 
 mul-sum : tie.Need-mul-sum Inv-loop μ-loop
-mul-sum c = record { fits = omega (arith, bounds (c .before .before) .square) }
+mul-sum c = let b = bounds (c .before .before) in record { fits = omega (arith, b .square, b .fits) }
+
+-- the sum with one square more, and that it fits
+added : (c : tie.After-magnitude Inv-loop μ-loop)
+    → (let g = c .before .before .before .before .args .g in let l = c .before .before .before .loop in
+    l .sum + zeroError g (c .magnitude .result) * zeroError g (c .magnitude .result) ≤ (l .i + 1) * mostSquare g)
+added c =
+    let l = c .before .before .before .loop in
+    squares-next (l .i) (mostSquare (c .before .before .before .before .args .g)) (l .sum) _ (l .inv .2) (bounds c .square)
+
+fitting : (c : tie.After-magnitude Inv-loop μ-loop) → (c .before .before .before .loop .i + 1) * mostSquare (c .before .before .before .before .args .g) ≤ 2 ^ 63
+fitting c =
+    let s = c .before .before .before .before in
+    squares-fit (s .args .g) (length (s .args .part .now)) (c .before .before .before .loop .i + 1) (omega (arith, c .before .before .loop-test .taken)) (s .pre .1)
 
 add-sum : tie.Need-add-sum Inv-loop μ-loop
-add-sum c =
-    let s = c .before .before .before .before .before .before in
-    let l = c .before .before .before .before .before .loop in
-    record { fits = omega (arith, bounds (c .before .before) .square, l .inv .2, s .pre .1, c .before .before .before .before .loop-test .taken) }
+add-sum c = record { fits = omega (arith, added (c .before .before), fitting (c .before .before)) }
 
 add-i : tie.Need-add-i Inv-loop μ-loop
 add-i c = omega arith
@@ -89,7 +99,7 @@ loop-again c =
     rw (got (c .before .before) .0) (zero-distortion (s .args .g) (s .pre .0) z) in (
       omega arith,
       rw e (over-next nats (zeroDistortion (s .args .g)) (s .args .part .now) (l .i) (pos 0) (l .sum) lt ∙ l .inv .1),
-      omega (arith, bounds (c .before .before) .square, l .inv .2),
+      added (c .before .before),
     )
 
 returns : tie.Need-returns Inv-loop μ-loop
@@ -97,7 +107,7 @@ returns c =
     let s = c .before .before in
     let l = c .before .loop in (
       sym (over-end nats (zeroDistortion (s .args .g)) (s .args .part .now) (l .i) (l .sum) (c .loop-test .left)) ∙ l .inv .1,
-      omega (arith, l .inv .2, l .inv .0, s .pre .1),
+      omega (arith, l .inv .2, squares-fit (s .args .g) (length (s .args .part .now)) (l .i) (l .inv .0) (s .pre .1)),
     )
 
 pub squares-spec : {M : Type 1} → statement M

@@ -2,9 +2,10 @@
 -- Assumes nothing.
 use mathlib.Core.Path.{_≡_, sym, ap, subst, _∙_}
 use mathlib.Core.Logic.{inl}
-use Prim.Native.Nat.{ℕ, _≤_, _+_, _-_}
+use Prim.Native.Nat.{ℕ, _≤_, _+_, _-_, _*_}
+use native.Mathlib.Nat.{mul-le-mul-right}
 use native.Mathlib.Omega.{arith}
-use lib.ListN.{length, drop}
+use lib.ListN.{length, take, drop}
 use borrow.Author.Needs.{needs}
 use Rattle.integers.specs.Sum.{over, onℕ}
 use Rattle.integers.proofs.Sums.{nats}
@@ -16,14 +17,17 @@ use Rattle.quantise.proofs.distortion.uncoded.Statement.{statement}
 use Rattle.quantise.proofs.distortion.uncoded.Tie as tie
 
 abbrev Inv-loop : tie.InvT-loop
-Inv-loop block g d₀ i₀ d i =
+Inv-loop block g most d₀ i₀ d i =
     (i ≤ length block) × Adding d (over onℕ (zeroDistortion g) (drop i block)) (over onℕ (zeroDistortion g) block)
 
 abbrev μ-loop : tie.MeasureT-loop
-μ-loop block g d₀ i₀ d i = length block - i
+μ-loop block g most d₀ i₀ d i = length block - i
 
 loop-holds : tie.Need-loop-holds Inv-loop μ-loop
 loop-holds c = (omega arith, inl (omega arith))
+
+part-length-requires : tie.Need-part-length-requires Inv-loop μ-loop
+part-length-requires c κs = search needs
 
 part-end-requires : tie.Need-part-end-requires Inv-loop μ-loop
 part-end-requires c κs = search needs
@@ -42,17 +46,20 @@ part-squares-end c = search needs
 
 squares-requires : tie.Need-squares-requires Inv-loop μ-loop
 squares-requires c κs =
-    let s = c .before .before .before .before in
+    let s = c .before .before .before .before .before in
     let i = c .before .before .before .loop .i in
     let e = c .before .part-end .result in
-    (s .pre .0, omega (arith, part-short (e - i) (drop i (s .args .block .now)), c .before .part-end .ensures .short), within-part (s .args .block .now) 32767 i (e - i) (s .pre .1))
+    let most = c .before .before .before .before .part-length in
+    let short : length (take (e - i) (drop i (s .args .block .now))) ≤ most .result =
+    omega (arith, part-short (e - i) (drop i (s .args .block .now)), c .before .part-end .ensures .short) in
+    (s .pre .0, omega (arith, mul-le-mul-right (s .args .g .front * s .args .g .front) short, most .ensures .1), within-part (s .args .block .now) 32767 i (e - i) (s .pre .1))
 
 -- what is left is the part and what is behind it
 left : (c : tie.After-squares Inv-loop μ-loop)
-    → (let a = c .before .before .before .before .before .args in let l = c .before .before .before .before .loop in let e = c .before .before .part-end .result in
+    → (let a = c .before .before .before .before .before .before .args in let l = c .before .before .before .before .loop in let e = c .before .before .part-end .result in
     over onℕ (zeroDistortion (a .g)) (drop (l .i) (a .block .now)) ≡ c .squares .result + over onℕ (zeroDistortion (a .g)) (drop e (a .block .now)))
 left c =
-    let a = c .before .before .before .before .before .args in
+    let a = c .before .before .before .before .before .before .args in
     let l = c .before .before .before .before .loop in
     let e = c .before .before .part-end .result in
     over-part nats (zeroDistortion (a .g)) (a .block .now) (l .i) e (omega (arith, c .before .before .part-end .ensures .on))
@@ -79,7 +86,7 @@ loop-again-2 c =
 
 returns : tie.Need-returns Inv-loop μ-loop
 returns c =
-    let s = c .before .before in
+    let s = c .before .before .before in
     let l = c .before .loop in
     adding-done (l .d) _ (subst (λ (x : ℕ). Adding (l .d) x (over onℕ (zeroDistortion (s .args .g)) (s .args .block .now))) (over-behind onℕ (zeroDistortion (s .args .g)) (s .args .block .now) (l .i) (c .loop-test .left)) (l .inv .1))
 
@@ -89,6 +96,7 @@ uncoded-spec =
     (tie.spec
     Inv-loop
     μ-loop
+    part-length-requires
     loop-holds
     part-end-requires
     mul-squares

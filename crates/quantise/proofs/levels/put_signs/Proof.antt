@@ -14,7 +14,8 @@ use Rattle.integers.proofs.Sums.{nats}
 use Rattle.integers.proofs.Over.{over-next, over-end}
 use Rattle.price.specs.Level.{signed}
 use Rattle.quantise.proofs.Samples.{minus-fits, put-minus, put-plus}
-use Rattle.quantise.proofs.Signing.{Signing, ones, one-more, none-more, ones-few, nonzeros-over, signing-none, signing-more, signing-all}
+use Rattle.quantise.proofs.Counting.{ones, one-more, none-more, ones-few, nonzeros-over}
+use Rattle.quantise.proofs.Signing.{Signing, signing-none, signing-more, signing-all}
 use Rattle.quantise.proofs.levels.put_signs.Statement.{statement}
 use Rattle.quantise.proofs.levels.put_signs.Tie as tie
 
@@ -91,6 +92,9 @@ loop-again c =
       omega (arith, ones-few (getD (s .args .levels .now) (l .i) 0), l .inv .3),
     )
 
+cast-result : tie.Need-cast-result Inv-loop μ-loop
+cast-result c = search needs
+
 same-length : tie.Need-same-length Inv-loop μ-loop
 same-length c = search needs
 
@@ -121,5 +125,6 @@ put-signs-spec =
     add-i
     loop-less
     loop-again
+    cast-result
     same-length
     returns)

@@ -112,7 +112,7 @@ cast-t19 c =
     let s = c .before .before in
     let h = half-range (s .args .log2-side) (s .args .qp) (s .pre .0) (s .pre .1) (s .pre .2) in
     let q = scale-range (s .args .qp) in
-    record { fits = omega (arith, c .before .scale .ensures, least-range (1 * 2 ^ (shiftOf (s .args .log2-side) (s .args .qp) - 1) % 18446744073709551616) (c .before .scale .result) (omega (arith, c .before .scale .ensures))) }
+    record { fits = omega (arith, c .before .scale .ensures, least-range (1 * 2 ^ (shiftOf (s .args .log2-side) (s .args .qp) - 1) % 18446744073709551616) (c .before .scale .result) (omega (arith, c .before .scale .ensures)) (omega arith)) }
 
 returns : tie.Need-returns
 unfolding shiftOf

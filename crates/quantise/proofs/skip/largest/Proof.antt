@@ -45,6 +45,9 @@ shared-slice-copy-out-magnitude c = omega arith
 magnitude-requires : tie.Need-magnitude-requires Inv-loop μ-loop
 magnitude-requires c κs = search needs
 
+cast-larger : tie.Need-cast-larger Inv-loop μ-loop
+cast-larger c = record { fits = omega (arith, c .magnitude .ensures .1) }
+
 larger-requires : tie.Need-larger-requires Inv-loop μ-loop
 larger-requires c κs = search needs
 
@@ -80,6 +83,9 @@ loop-again c =
           ∙ l .inv .3),
     )
 
+cast-result : tie.Need-cast-result Inv-loop μ-loop
+cast-result c = search needs
+
 returns : tie.Need-returns Inv-loop μ-loop
 returns c =
     let p = c .before .before .args .part .now in
@@ -105,8 +111,10 @@ largest-spec =
     mul-magnitude
     shared-slice-copy-out-magnitude
     magnitude-requires
+    cast-larger
     larger-requires
     add-i
     loop-less
     loop-again
+    cast-result
     returns)

@@ -1,106 +1,114 @@
--- `tables::scan::fill_scan` meets its contract. The listed numbers are the five scans in a row, which antt computes; the loop copies
--- the part of one side, entry by entry.
+-- `tables::scan::fill_scan` meets its contract. The listed numbers of each side are its scan, which antt computes; they are copied.
 -- Assumes nothing.
-use mathlib.Core.Path.{_≡_, refl, sym, _∙_}
-use Prim.Native.Nat.{ℕ, _≤_, _<_, _-_, _^_}
+use mathlib.Core.Path.{_≡_, sym, ap, _∙_}
+use Prim.Native.Nat.{ℕ, _≤_, _^_}
 use native.Mathlib.Omega.{arith}
 use borrow.Author.Needs.{needs}
-use lib.ListN.{length, length-set, getD}
-use Rattle.integers.proofs.Fill.{Filled, filled-more, filled-all}
-use Rattle.tables.specs.Sides.{fiveSides}
 use Rattle.tables.specs.Scan.{square}
-use Rattle.tables.proofs.Sides.{side-within, held-at}
-use Rattle.tables.proofs.OneToOne.{square-length}
 use Rattle.tables.proofs.scan.fill_scan.Statement.{statement}
 use Rattle.tables.proofs.scan.fill_scan.Tie as tie
-use Rattle.tables.proofs.scan.fill_scan.Reads as reads
-use Rattle.tables.proofs.scan.fill_scan.Lts as lts
-use Rattle.tables.proofs.start.Reads as start-reads
 
-abbrev Inv-loop : tie.InvT-loop
-Inv-loop log2 held₀ table from n p₀ held p =
-    (p ≤ n) × (length held ≡ length held₀) × (table ≡ fiveSides square) × Filled 0 held (λ j. getD (square log2) j 0) p
+-- a list of the side's 4^k numbers fits what is lent
+fitting : (k : ℕ) {n l : ℕ} → n ≡ 4 ^ l → l ≡ k → 4 ^ k ≤ 1024 → (4 ^ k ≡ n) × (n ≤ 1024)
+fitting k e q h =
+    let room = e ∙ ap (λ (m : ℕ). 4 ^ m) q in
+    (sym room, omega (arith, room))
 
-abbrev μ-loop : tie.MeasureT-loop
-μ-loop log2 held₀ table from n p₀ held p = n - p
+-- the side that is left
+largest : (l : ℕ) → 1 ≤ l → l ≤ 5 → (l ≡ 1 → ⊥) → (l ≡ 2 → ⊥) → (l ≡ 3 → ⊥) → (l ≡ 4 → ⊥) → l ≡ 5
+largest l a b n1 n2 n3 n4 = omega arith
 
-start-requires : tie.Need-start-requires Inv-loop μ-loop
-start-requires c κs = search needs
+last-side : (c : tie.Else4) → c .before .before .before .before .before .args .log2 ≡ 5
+last-side c =
+    let s = c .before .before .before .before .before in
+    largest _ (s .pre .0) (s .pre .1) (c .before .before .before .if1 .left) (c .before .before .if2 .left) (c .before .if3 .left) (c .if4 .left)
 
-loop-holds : tie.Need-loop-holds Inv-loop μ-loop
-unfolding fiveSides square
-loop-holds c = (omega arith, refl, refl, λ j h. absurd (omega arith))
+slice-aggregate-copy : tie.Need-slice-aggregate-copy
+slice-aggregate-copy c = search needs
 
-add-held : tie.Need-add-held Inv-loop μ-loop
-add-held c =
-    let a = c .before .before .before .before in
-    omega (arith, side-within (a .args .log2) (a .pre .1), c .before .before .start .ensures, a .pre .2)
+copy-requires : tie.Need-copy-requires
+copy-requires c κs = fitting 1 (c .before .before .before .before .before .pre .2) (c .before .before .before .if1 .taken) (omega arith)
 
-mul-held : tie.Need-mul-held Inv-loop μ-loop
-mul-held c =
-    let a = c .before .before .before .before in
-    omega (arith, side-within (a .args .log2) (a .pre .1), c .before .before .start .ensures, a .pre .2)
+slice-aggregate-copy-2 : tie.Need-slice-aggregate-copy-2
+slice-aggregate-copy-2 c = search needs
 
-array-read-held : tie.Need-array-read-held Inv-loop μ-loop
-array-read-held c =
-    let a = c .before .before .before .before in
-    omega (arith, side-within (a .args .log2) (a .pre .1), c .before .before .start .ensures, a .pre .2)
+copy-requires-2 : tie.Need-copy-requires-2
+copy-requires-2 c κs = fitting 2 (c .before .before .before .before .before .before .pre .2) (c .before .before .before .if2 .taken) (omega arith)
 
-mul-held-2 : tie.Need-mul-held-2 Inv-loop μ-loop
-mul-held-2 c =
-    let a = c .before .before .before .before in
-    omega (arith, side-within (a .args .log2) (a .pre .1), a .pre .2)
+slice-aggregate-copy-3 : tie.Need-slice-aggregate-copy-3
+slice-aggregate-copy-3 c = search needs
 
-slice-write-held : tie.Need-slice-write-held Inv-loop μ-loop
-slice-write-held c = search needs
+copy-requires-3 : tie.Need-copy-requires-3
+copy-requires-3 c κs = fitting 3 (c .before .before .before .before .before .before .before .pre .2) (c .before .before .before .if3 .taken) (omega arith)
 
-add-p : tie.Need-add-p Inv-loop μ-loop
-add-p c = search needs
+slice-aggregate-copy-4 : tie.Need-slice-aggregate-copy-4
+slice-aggregate-copy-4 c = search needs
 
-loop-less : tie.Need-loop-less Inv-loop μ-loop
-loop-less c = search needs
+copy-requires-4 : tie.Need-copy-requires-4
+copy-requires-4 c κs = fitting 4 (c .before .before .before .before .before .before .before .before .pre .2) (c .before .before .before .if4 .taken) (omega arith)
 
-loop-again : tie.Need-loop-again Inv-loop μ-loop
-loop-again c =
-    let l = c .before .loop in
-    let a = c .before .before .before .before in
-    let h : l .p < 4 ^ a .args .log2 = omega (arith, a .pre .2) in (
-      omega arith,
-      simp length-set (l .inv .1),
-      l .inv .2,
-      filled-more 0 (l .held) (λ j. getD (square (a .args .log2)) j 0) (l .p) _ (omega arith)
-          (held-at 0 square square-length _ (c .before .before .start .result) (a .args .log2) (l .p) (l .inv .2)
-          (c .before .before .start .ensures) (a .pre .0) (a .pre .1) h)
-          (l .inv .3),
-    )
+slice-aggregate-copy-5 : tie.Need-slice-aggregate-copy-5
+slice-aggregate-copy-5 c = search needs
 
-same-length : tie.Need-same-length Inv-loop μ-loop
+copy-requires-5 : tie.Need-copy-requires-5
+copy-requires-5 c κs = fitting 5 (c .before .before .before .before .before .before .before .before .pre .2) (last-side (c .before .before .before)) (omega arith)
+
+same-length : tie.Need-same-length
 same-length c = search needs
 
-returns : tie.Need-returns Inv-loop μ-loop
-returns c =
-    let l = c .before .loop in
-    let a = c .before .before .before .before in
-    filled-all 0 (l .held) (square (a .args .log2)) (l .p)
-    (l .inv .1 ∙ a .pre .2 ∙ sym (square-length (a .args .log2) (a .pre .1)))
-    (omega arith)
-    (l .inv .3)
+returns : tie.Need-returns
+unfolding square
+returns c = c .before .before .copy .ensures ∙ ap square (sym (c .before .before .before .before .before .before .if1 .taken))
+
+same-length-2 : tie.Need-same-length-2
+same-length-2 c = search needs
+
+returns-2 : tie.Need-returns-2
+unfolding square
+returns-2 c = c .before .before .copy2 .ensures ∙ ap square (sym (c .before .before .before .before .before .before .if2 .taken))
+
+same-length-3 : tie.Need-same-length-3
+same-length-3 c = search needs
+
+returns-3 : tie.Need-returns-3
+unfolding square
+returns-3 c = c .before .before .copy3 .ensures ∙ ap square (sym (c .before .before .before .before .before .before .if3 .taken))
+
+same-length-4 : tie.Need-same-length-4
+same-length-4 c = search needs
+
+returns-4 : tie.Need-returns-4
+unfolding square
+returns-4 c = c .before .before .copy4 .ensures ∙ ap square (sym (c .before .before .before .before .before .before .if4 .taken))
+
+same-length-5 : tie.Need-same-length-5
+same-length-5 c = search needs
+
+returns-5 : tie.Need-returns-5
+unfolding square
+returns-5 c = c .before .before .copy5 .ensures ∙ ap square (sym (last-side (c .before .before .before .before .before .before)))
 
 pub fill-scan-spec : {M : Type 1} → statement M
 fill-scan-spec =
     tie.close
     (tie.spec
-    Inv-loop
-    μ-loop
-    start-requires
-    loop-holds
-    add-held
-    mul-held
-    array-read-held
-    mul-held-2
-    slice-write-held
-    add-p
-    loop-less
-    loop-again
+    slice-aggregate-copy
+    copy-requires
+    slice-aggregate-copy-2
+    copy-requires-2
+    slice-aggregate-copy-3
+    copy-requires-3
+    slice-aggregate-copy-4
+    copy-requires-4
+    slice-aggregate-copy-5
+    copy-requires-5
     same-length
-    returns)
+    returns
+    same-length-2
+    returns-2
+    same-length-3
+    returns-3
+    same-length-4
+    returns-4
+    same-length-5
+    returns-5)

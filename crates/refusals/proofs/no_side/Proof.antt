@@ -1,12 +1,12 @@
--- `transform::no_side` meets its contract.
+-- `refusals::no_side` meets its contract: below 1, above 5, or neither.
 -- Assumes nothing.
 use mathlib.Core.Logic.{⊎-elim}
 use Prim.Native.Nat.{_<_, _≤_}
 use native.Mathlib.Omega.{arith}
 use Rattle.integers.proofs.Order.{below-or-not}
 use borrow.Author.Tests.{le-leb, lt-leb, lt-ltb, le-ltb}
-use Rattle.transform.proofs.no_side.Statement.{statement}
-use Rattle.transform.proofs.no_side.Tie as tie
+use Rattle.refusals.proofs.no_side.Statement.{statement}
+use Rattle.refusals.proofs.no_side.Tie as tie
 
 returns : tie.Need-returns
 returns c = simp (lt-leb 1 (c .before .args .log2) (c .if1 .taken))
