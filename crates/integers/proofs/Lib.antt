@@ -2,6 +2,7 @@ pub mod Parts
 pub mod Ring
 pub mod Magnitude
 pub mod Fit
+pub mod Sixteen
 pub mod Grid
 pub mod Floor
 pub mod Sums

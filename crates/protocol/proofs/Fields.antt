@@ -12,10 +12,10 @@ use borrow.Author.Tests.{eqb-true}
 use lib.Dec.{eqb}
 use lib.ListN.{getD, set}
 use lib.Seq.{getD-set-other}
-use Rattle.protocol.specs.declared.number.Natural.the-variants.{Is}
-use Rattle.protocol.specs.Number.{bitsOf, naturalUpTo}
+use Rattle.numerals.specs.declared.number.Natural.the-variants.{Is}
+use Rattle.numerals.specs.Number.{bitsOf, naturalUpTo}
 use Rattle.protocol.specs.Request.{limitOf, fieldOf}
-use Rattle.protocol.proofs.Reading.{within}
+use Rattle.numerals.proofs.Reading.{within}
 
 pub field-within : (kind : ℕ) (w : List ℕ) (v : ℕ) → v < 2 ^ 64 → fieldOf kind w ≡ Is v → v ≤ limitOf kind
 unfolding fieldOf

@@ -1,3 +1,1 @@
-pub mod Number
 pub mod Request
-pub mod Text

@@ -1,20 +1,35 @@
--- The fields of a request before its samples, each by its kind, which is a letter: a component (`c`, 99), a number of 32 bits (`i`, 105),
--- the bits of an f64 (`x`, 120), and any number of 64 bits (`w`, 119).
+-- A request: the word that names its verb, and its fields before the samples, each by its kind, which is a letter: a component
+-- (`c`, 99), a number of 32 bits (`i`, 105), the bits of an f64 (`x`, 120), and any number of 64 bits (`w`, 119).
 use mathlib.Core.Path.{_≡_}
 use mathlib.Core.Bool.{cond}
 use mathlib.Core.List.{List, [], _∷_}
 use Prim.Native.Nat.{ℕ, _≤_, _<_}
 use lib.Dec.{eqb}
 use lib.ListN.{length, getD, replicate}
-use Rattle.protocol.specs.declared.number.Natural.{Natural}
+use Rattle.numerals.specs.declared.number.Natural.{Natural}
 use Rattle.protocol.specs.declared.verb.Verb.{Verb}
 use Rattle.protocol.specs.declared.verb.Verb.the-variants.{Transform, Quantise, SubBlock}
+use Rattle.protocol.specs.declared.verb.Named.{Named}
+use Rattle.protocol.specs.declared.verb.Named.the-variants.{Is}
 use Rattle.protocol.specs.declared.request.Count.{Count}
 use Rattle.protocol.specs.declared.request.Count.the-variants.{Of}
 use Rattle.protocol.specs.declared.request.Place.{Place}
 use Rattle.protocol.specs.declared.request.Place.the-variants.{At}
-use Rattle.protocol.specs.Number.{naturalUpTo, bitsOf}
+use Rattle.numerals.specs.Number.{naturalUpTo, bitsOf}
 
+-- ---- verbs
+-- `transform`, `quantise`, `subblock`
+abbrev pub wordOf : Verb → List ℕ
+wordOf Transform = 116 ∷ 114 ∷ 97 ∷ 110 ∷ 115 ∷ 102 ∷ 111 ∷ 114 ∷ 109 ∷ []
+wordOf Quantise = 113 ∷ 117 ∷ 97 ∷ 110 ∷ 116 ∷ 105 ∷ 115 ∷ 101 ∷ []
+wordOf SubBlock = 115 ∷ 117 ∷ 98 ∷ 98 ∷ 108 ∷ 111 ∷ 99 ∷ 107 ∷ []
+
+-- a verb is read from its word, and from no other
+pub record Names (word : List ℕ) (r : Named) : Type 0 where
+  pub sound : (v : Verb) → r ≡ Is v → word ≡ wordOf v
+  pub whole : (v : Verb) → word ≡ wordOf v → r ≡ Is v
+
+-- ---- fields
 -- the most that a field of a kind can be
 abbrev pub limitOf : ℕ → ℕ
 limitOf kind = cond (eqb kind 99) 2 (cond (eqb kind 105) 4294967295 18446744073709551615)

@@ -23,10 +23,8 @@ ghost use Prim.Native.Nat.{_≤_};
 ghost use lib.ListN.{length};
 ghost use Rattle.protocol.specs.Request.{kindsOf, Limited};
 
-mod number;
 mod reply;
 mod request;
-mod text;
 mod verb;
 mod words;
 

@@ -1,7 +1,7 @@
 // Answers as text, from the start of the room for them.
-use crate::text::put_natural;
-use crate::text::put_sample;
-use crate::text::put_word;
+use numerals::text::put_natural;
+use numerals::text::put_sample;
+use numerals::text::put_word;
 use quantise::QuantAnswer;
 use refusals::component_number;
 use refusals::number;

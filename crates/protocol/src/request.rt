@@ -1,10 +1,10 @@
 // The fields of a request: numbers before the samples, each by its kind, and then the samples.
-use crate::number::Natural;
-use crate::number::Sample;
-use crate::number::double_of;
-use crate::number::read_bits;
-use crate::number::read_natural;
-use crate::number::read_sample;
+use numerals::number::Natural;
+use numerals::number::Sample;
+use numerals::number::double_of;
+use numerals::number::read_bits;
+use numerals::number::read_natural;
+use numerals::number::read_sample;
 use crate::verb::Verb;
 use crate::words::word_end;
 use price::Costs;

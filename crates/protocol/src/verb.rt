@@ -1,5 +1,6 @@
 // The verbs. Each keeps its meaning for good; one that is added has fields of its own, or those of another.
-use crate::words::same;
+use check::same;
+ghost use Rattle.protocol.specs.Request.{Names};
 
 pub enum Verb {
     Transform,
@@ -12,7 +13,9 @@ pub enum Named {
     Malformed,
 }
 
-pub fn read_verb(word: &[u8]) -> Named {
+pub fn read_verb(word: &[u8]) -> Named
+    ensures { λ r. ⌜ Names (now (word .entry)) r ⌝ }
+{
     if same(word, b"transform") {
         return Named::Is(Verb::Transform);
     }

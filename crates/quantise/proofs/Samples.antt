@@ -1,41 +1,18 @@
--- A coefficient as the machine holds it, in 16 bits: its magnitude by a test of its sign, a magnitude with its sign put back, and the
--- one coefficient, -32768, that has no negation there. Assumes nothing.
+-- A coefficient as the machine holds it, in 16 bits: a magnitude with its sign put back, and the one coefficient, -32768, that has no
+-- negation there. Assumes nothing.
 use mathlib.Core.Path.{_≡_, refl, sym, ap, _∙_}
 use mathlib.Core.Bool.{Bool, true, false, true≢false, _||_}
-use Prim.Native.Nat.{ℕ, zero, suc, _+_, _≤_, _<_, max}
-use native.Mathlib.Nat.{zero-add}
+use Prim.Native.Nat.{ℕ, zero, suc, _≤_, _<_, max}
 use native.Mathlib.Omega.{arith}
 use borrow.Author.Tests.{ltb-true, eqb-true, eqb-false, eq-eqb, ne-eqb}
-use lib.Dec.{T, eqb, eqb·suc-suc}
+use lib.Dec.{eqb, eqb·suc-suc}
 use lib.IntN.{ℤ, pos, negsuc, negℤ, natAbs, _-ℤ_, +ℤ-idl}
-use lib.Signed.{nonNeg, ltZ}
-use mir.Syntax.{w16, w32}
-use mir.Val.{toZ, ofZ, SFits, Fits}
-use mir.Facts.{toZ-ofZ, sfits-widen}
+use lib.Signed.{ltZ}
+use mir.Syntax.{w16}
+use mir.Val.{toZ, ofZ, SFits}
+use mir.Facts.{toZ-ofZ}
 use Rattle.integers.specs.Tests.{eqℤ}
 use Rattle.price.specs.Level.{signed}
-
-pub record Below (z : ℤ) : Type 0 where
-  pub wide : toZ w32 (ofZ w32 z) ≡ z
-  pub flips : pos 0 -ℤ z ≡ pos (natAbs z)
-  pub low : natAbs z ≤ 32768
-  pub fits : SFits w32 (pos (natAbs z))
-
-pub below : (z : ℤ) → SFits w16 z → ltZ (toZ w16 (ofZ w16 z)) (pos 0) ≡ true → Below z
-below (pos n) f t = absurd (let q = ltb-true n 0 (rw (toZ-ofZ {w = w16} {z = pos n} f) at t) in omega arith)
-below (negsuc n) f t =
-    let b : n < 32768 = f .sfits in
-    let g : SFits w32 (pos (suc n)) = omega arith in
-    record { wide = toZ-ofZ {w = w32} (sfits-widen tt f); flips = ap pos (zero-add (suc n)); low = omega arith; fits = g }
-
-pub record Above (z : ℤ) : Type 0 where
-  pub plain : T (nonNeg z)
-  pub low : natAbs z ≤ 32768
-  pub fits : Fits w32 (natAbs z)
-
-pub above : (z : ℤ) → SFits w16 z → ltZ (toZ w16 (ofZ w16 z)) (pos 0) ≡ false → Above z
-above (pos n) f t = let b : n < 32768 = f .sfits in record { plain = tt; low = omega arith; fits = omega arith }
-above (negsuc n) f t = absurd (true≢false (rw (toZ-ofZ {w = w16} {z = negsuc n} f) at t))
 
 -- ---- the sign put back
 module _ (z : ℤ) (a : ℕ) (f : SFits w16 z) (h : a ≤ 32767) where

@@ -1,2 +1,1 @@
-mod Equality
 mod Pairing

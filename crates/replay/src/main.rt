@@ -1,5 +1,6 @@
 // Answers recorded requests again. Standard input alternates a request line and the answer line that was recorded for it; each
 // answer that is not the recorded one, byte for byte, is shown, the first ten of them, and both kinds are counted.
+use check::same;
 use libc::STDOUT_FILENO;
 use lines::Cursor;
 use lines::Line;
@@ -18,23 +19,6 @@ enum Pair {
     Wrong(usize, Cursor),
     // No request is left.
     End,
-}
-
-// Whether a and b are the same bytes.
-fn same(a: &[u8], b: &[u8]) -> bool
-    ensures { λ r. ⌜ (r ≡ true → now (a .entry) ≡ now (b .entry)) × (now (a .entry) ≡ now (b .entry) → r ≡ true) ⌝ }
-{
-    if a.len() != b.len() {
-        return false;
-    }
-    let mut i = 0;
-    while i < a.len() {
-        if a[i] != b[i] {
-            return false;
-        }
-        i += 1;
-    }
-    true
 }
 
 // Reads the recorded line and compares it with the answer, the first n bytes of out.

@@ -4,7 +4,7 @@ use mathlib.Core.Path.{_≡_, sym, _∙_}
 use Prim.Native.Nat.{ℕ}
 use native.Mathlib.Omega.{arith}
 use borrow.Author.Needs.{needs}
-use Rattle.protocol.proofs.Reading.{within}
+use Rattle.numerals.proofs.Reading.{within}
 use Rattle.protocol.proofs.request.read_count.Statement.{statement}
 use Rattle.protocol.proofs.request.read_count.Tie as tie
 

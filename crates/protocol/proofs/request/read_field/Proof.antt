@@ -4,7 +4,7 @@ use mathlib.Core.Path.{ap, _∙_}
 use Prim.Native.Nat.{ℕ}
 use borrow.Author.Tests.{eq-eqb, ne-eqb}
 use borrow.Author.Needs.{needs}
-use Rattle.protocol.specs.Number.{naturalUpTo}
+use Rattle.numerals.specs.Number.{naturalUpTo}
 use Rattle.protocol.specs.Request.{fieldOf}
 use Rattle.protocol.proofs.request.read_field.Statement.{statement}
 use Rattle.protocol.proofs.request.read_field.Tie as tie

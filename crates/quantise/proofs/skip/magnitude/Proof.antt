@@ -3,7 +3,7 @@
 use mathlib.Core.Path.{refl}
 use native.Mathlib.Omega.{arith}
 use mir.Facts.{toZ-ofZ, sfits-widen}
-use Rattle.quantise.proofs.Samples.{below, above}
+use Rattle.integers.proofs.Sixteen.{below, above}
 use Rattle.quantise.proofs.skip.magnitude.Statement.{statement}
 use Rattle.quantise.proofs.skip.magnitude.Tie as tie
 

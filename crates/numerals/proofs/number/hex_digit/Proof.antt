@@ -1,0 +1,35 @@
+-- `numerals::number::hex_digit` meets its contract: a byte by its order.
+-- Assumes nothing.
+use borrow.Author.Needs.{needs}
+use Rattle.numerals.proofs.Hex.{low, decimal, between, letter, high}
+use Rattle.numerals.proofs.number.hex_digit.Statement.{statement}
+use Rattle.numerals.proofs.number.hex_digit.Tie as tie
+
+returns : tie.Need-returns
+returns c = low _ (c .if1 .taken)
+
+cast-result : tie.Need-cast-result
+cast-result c = search needs
+
+returns-2 : tie.Need-returns-2
+returns-2 c = decimal _ (c .before .if1 .left) (c .if2 .taken)
+
+returns-3 : tie.Need-returns-3
+returns-3 c = between _ (c .before .if2 .left) (c .if3 .taken)
+
+sub-result : tie.Need-sub-result
+sub-result c = search needs
+
+cast-result-2 : tie.Need-cast-result-2
+cast-result-2 c = search needs
+
+returns-4 : tie.Need-returns-4
+returns-4 c = letter _ (c .before .if3 .left) (c .if4 .taken)
+
+returns-5 : tie.Need-returns-5
+returns-5 c = high _ (c .if4 .left)
+
+pub hex-digit-spec : {M : Type 1} → statement M
+hex-digit-spec =
+    tie.close
+    (tie.spec returns cast-result returns-2 returns-3 sub-result cast-result-2 returns-4 returns-5)
