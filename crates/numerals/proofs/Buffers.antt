@@ -40,7 +40,7 @@ put-both before t u mid after at m r n s most h k p q =
     let long : length (t ++ u) ≡ length t + length u = length-append t u in
     let end : at + length t + length u ≡ at + length (t ++ u) = omega arith in
     let met : length (take at before ++ t) ≡ r =
-        length-append (take at before) t ∙ ap (λ (j : ℕ). j + length t) (length-take-le at before (omega arith)) ∙ sym (p .next) in
+    length-append (take at before) t ∙ ap (λ (j : ℕ). j + length t) (length-take-le at before (omega arith)) ∙ sym (p .next) in
     record {
       next = omega (arith, p .next, q .next);
       few = omega arith;

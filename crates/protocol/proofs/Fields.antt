@@ -1,4 +1,4 @@
--- Fields read one by one: each is within the limit of its kind.
+-- Fields read one by one: each is within the limit of its kind. Then what they are to a call.
 -- Assumes nothing.
 use mathlib.Core.Path.{_≡_, refl, sym, subst}
 use mathlib.Core.Logic.{⊎-elim}
@@ -10,11 +10,16 @@ use native.Mathlib.Numerals.{add-one}
 use native.Mathlib.Omega.{arith}
 use borrow.Author.Tests.{eqb-true}
 use lib.Dec.{eqb}
+use lib.IntN.{ℤ}
 use lib.ListN.{getD, set}
 use lib.Seq.{getD-set-other}
+use Rattle.refusals.specs.declared.Component.{Component}
+use Rattle.price.specs.declared.Costs.{Costs}
+use Rattle.price.specs.declared.Settings.{Settings}
+use Rattle.quantise.specs.Block.{Quant, called}
 use Rattle.numerals.specs.declared.number.Natural.the-variants.{Is}
 use Rattle.numerals.specs.Number.{bitsOf, naturalUpTo}
-use Rattle.protocol.specs.Request.{limitOf, fieldOf}
+use Rattle.protocol.specs.Request.{limitOf, fieldOf, yes, componentBy, settingsAt, costsAt, quantiseBy}
 use Rattle.numerals.proofs.Reading.{within}
 
 pub field-within : (kind : ℕ) (w : List ℕ) (v : ℕ) → v < 2 ^ 64 → fieldOf kind w ≡ Is v → v ≤ limitOf kind
@@ -40,3 +45,9 @@ one-more kinds fields i v before h k l =
   where
     other : k ≡ i → k < i → ⊥
     other e m = omega arith
+
+-- ---- the call of `quantise`, by what its fields were made into
+module _ {A : Type 0} (of : Quant → A) (x : A) (samples : List ℤ) (f : List ℕ) (k : Component) (s : Settings) (t : Costs) where
+  pub quantise-by : k ≡ componentBy (getD f 0 0) → s ≡ settingsAt 2 f → t ≡ costsAt 6 f
+      → x ≡ of (called samples (getD f 1 0) k s (yes (getD f 4 0)) (yes (getD f 5 0)) t) → x ≡ of (quantiseBy samples f)
+  quantise-by p q r e = rw (p, q, r) at e

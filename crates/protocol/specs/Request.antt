@@ -1,11 +1,19 @@
 -- A request: the word that names its verb, and its fields before the samples, each by its kind, which is a letter: a component
 -- (`c`, 99), a number of 32 bits (`i`, 105), the bits of an f64 (`x`, 120), and any number of 64 bits (`w`, 119).
 use mathlib.Core.Path.{_≡_}
-use mathlib.Core.Bool.{cond}
+use mathlib.Core.Bool.{Bool, not, cond}
 use mathlib.Core.List.{List, [], _∷_}
-use Prim.Native.Nat.{ℕ, _≤_, _<_}
+use Prim.Native.Nat.{ℕ, _+_, _≤_, _<_}
 use lib.Dec.{eqb}
+use lib.Ieee.{binary64, ofBits}
+use lib.IntN.{ℤ}
 use lib.ListN.{length, getD, replicate}
+use Rattle.refusals.specs.declared.Component.{Component}
+use Rattle.refusals.specs.declared.Component.the-variants.{Y, U, «V»}
+use Rattle.price.specs.declared.Costs.{Costs}
+use Rattle.price.specs.declared.Settings.{Settings}
+use Rattle.quantise.specs.Block.{Quant, called}
+use Rattle.subblock.specs.declared.Request.{Request}
 use Rattle.numerals.specs.declared.number.Natural.{Natural}
 use Rattle.protocol.specs.declared.verb.Verb.{Verb}
 use Rattle.protocol.specs.declared.verb.Verb.the-variants.{Transform, Quantise, SubBlock}
@@ -58,3 +66,46 @@ Within r kinds fields = (next : ℕ) → r ≡ At next → Limited kinds fields
 
 abbrev pub FewSamples : Count → Type 0
 FewSamples r = (n next : ℕ) → r ≡ Of n next → n ≤ 8192
+
+-- ---- what the fields are to a call
+-- a field that is not 0 is a yes
+abbrev pub yes : ℕ → Bool
+yes n = not (eqb n 0)
+
+abbrev pub componentBy : ℕ → Component
+componentBy n = cond (eqb n 0) Y (cond (eqb n 1) U «V»)
+
+-- a QP and the bits of a LAMBDA
+abbrev pub settingsAt : ℕ → List ℕ → Settings
+settingsAt i f = record { qp = getD f i 0; lambda = ofBits binary64 (getD f (i + 1) 0) }
+
+abbrev pub fourAt : ℕ → List ℕ → List ℕ
+fourAt i f = getD f i 0 ∷ getD f (i + 1) 0 ∷ getD f (i + 2) 0 ∷ getD f (i + 3) 0 ∷ []
+
+abbrev pub eightAt : ℕ → List ℕ → List ℕ
+eightAt i f =
+    getD f i 0 ∷ getD f (i + 1) 0 ∷ getD f (i + 2) 0 ∷ getD f (i + 3) 0
+    ∷ getD f (i + 4) 0 ∷ getD f (i + 5) 0 ∷ getD f (i + 6) 0 ∷ getD f (i + 7) 0 ∷ []
+
+-- COSTS
+abbrev pub costsAt : ℕ → List ℕ → Costs
+costsAt i f = record { run = eightAt i f; level = eightAt (i + 8) f; last = fourAt (i + 16) f; cbf = eightAt (i + 20) f }
+
+-- the call of `quantise`: COMPONENT LOG2 QP LAMBDA INTRA_SLICE INTRA_CODED, COSTS
+abbrev pub quantiseBy : List ℤ → List ℕ → Quant
+quantiseBy samples f =
+    called samples (getD f 1 0) (componentBy (getD f 0 0)) (settingsAt 2 f) (yes (getD f 4 0)) (yes (getD f 5 0)) (costsAt 6 f)
+
+-- the call of `subblock`: LOG2 RUN, a QP and a LAMBDA each of Y, U and V, INTRA_SLICE INTRA_CODED, COSTS
+abbrev pub requestOf : List ℕ → Request
+requestOf f =
+    record {
+      side = getD f 0 0;
+      y = settingsAt 2 f;
+      u = settingsAt 4 f;
+      v = settingsAt 6 f;
+      run = getD f 1 0;
+      slice = yes (getD f 8 0);
+      coded = yes (getD f 9 0);
+      costs = costsAt 10 f;
+    }

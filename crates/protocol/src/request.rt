@@ -1,12 +1,12 @@
 // The fields of a request: numbers before the samples, each by its kind, and then the samples.
+use crate::verb::Verb;
+use crate::words::word_end;
 use numerals::number::Natural;
 use numerals::number::Sample;
 use numerals::number::double_of;
 use numerals::number::read_bits;
 use numerals::number::read_natural;
 use numerals::number::read_sample;
-use crate::verb::Verb;
-use crate::words::word_end;
 use price::Costs;
 use price::Settings;
 use quantise::QuantAnswer;
@@ -16,7 +16,8 @@ use subblock::Request;
 ghost use mathlib.Core.Path.{_≡_};
 ghost use Prim.Native.Nat.{_≤_};
 ghost use lib.ListN.{length, getD};
-ghost use Rattle.protocol.specs.Request.{limitOf, fieldOf, kindsOf, Within, FewSamples};
+ghost use Rattle.quantise.specs.Call.{paperOf, quantAnswer, quantBuffer};
+ghost use Rattle.protocol.specs.Request.{limitOf, fieldOf, kindsOf, Within, FewSamples, componentBy, settingsAt, fourAt, eightAt, costsAt, quantiseBy, requestOf};
 
 // The cursor after some fields, or that one of them is malformed.
 pub enum Place {
@@ -123,7 +124,9 @@ pub fn read_samples(line: &[u8], at: usize, room: &mut [i16]) -> bool {
     line.len() < next
 }
 
-fn component_of(n: u64) -> Component {
+fn component_of(n: u64) -> Component
+    ensures { λ r. ⌜ r ≡ componentBy n ⌝ }
+{
     match n {
         0 => Component::Y,
         1 => Component::U,
@@ -134,6 +137,7 @@ fn component_of(n: u64) -> Component {
 // A QP and a LAMBDA.
 fn settings_of(fields: &[u64; 40], i: usize) -> Settings
     requires { ⌜ (i ≤ 38) × (getD (now fields) i 0 ≤ 4294967295) ⌝ }
+    ensures { λ r. ⌜ r ≡ settingsAt i (now (fields .entry)) ⌝ }
 {
     Settings {
         qp: fields[i] as u32,
@@ -143,12 +147,14 @@ fn settings_of(fields: &[u64; 40], i: usize) -> Settings
 
 fn four(f: &[u64; 40], i: usize) -> [u64; 4]
     requires { ⌜ i ≤ 36 ⌝ }
+    ensures { λ r. ⌜ r ≡ fourAt i (now (f .entry)) ⌝ }
 {
     [f[i], f[i + 1], f[i + 2], f[i + 3]]
 }
 
 fn eight(f: &[u64; 40], i: usize) -> [u64; 8]
     requires { ⌜ i ≤ 32 ⌝ }
+    ensures { λ r. ⌜ r ≡ eightAt i (now (f .entry)) ⌝ }
 {
     [
         f[i],
@@ -165,6 +171,7 @@ fn eight(f: &[u64; 40], i: usize) -> [u64; 8]
 // COSTS.
 fn costs_of(fields: &[u64; 40], i: usize) -> Costs
     requires { ⌜ i ≤ 12 ⌝ }
+    ensures { λ r. ⌜ r ≡ costsAt i (now (fields .entry)) ⌝ }
 {
     Costs {
         run: eight(fields, i),
@@ -177,6 +184,8 @@ fn costs_of(fields: &[u64; 40], i: usize) -> Costs
 // The call that `quantise` asks for.
 pub fn quantise_by(room: &mut [i16], fields: &[u64; 40]) -> QuantAnswer
     requires { ⌜ getD (now fields) 2 0 ≤ 4294967295 ⌝ }
+    ensures answer { λ r. ⌜ paperOf r ≡ quantAnswer (quantiseBy (now (room .entry)) (now (fields .entry))) ⌝ }
+    ensures buffer { λ _. ⌜ now (room .exit) ≡ quantBuffer (quantiseBy (now (room .entry)) (now (fields .entry))) ⌝ }
 {
     let settings = settings_of(fields, 2);
     let costs = costs_of(fields, 6);
@@ -194,6 +203,7 @@ pub fn quantise_by(room: &mut [i16], fields: &[u64; 40]) -> QuantAnswer
 // What `subblock` asks the call for.
 pub fn request_of(fields: &[u64; 40]) -> Request
     requires { ⌜ (getD (now fields) 1 0 ≤ 4294967295) × (getD (now fields) 2 0 ≤ 4294967295) × (getD (now fields) 4 0 ≤ 4294967295) × (getD (now fields) 6 0 ≤ 4294967295) ⌝ }
+    ensures { λ r. ⌜ r ≡ requestOf (now (fields .entry)) ⌝ }
 {
     Request {
         side: fields[0] as usize,

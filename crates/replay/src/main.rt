@@ -4,8 +4,6 @@ use check::same;
 use libc::STDOUT_FILENO;
 use lines::Cursor;
 use lines::Line;
-ghost use mathlib.Core.Path.{_≡_};
-ghost use mathlib.Core.Bool.{true};
 ghost use Prim.Native.Nat.{_≤_};
 ghost use lib.ListN.{length};
 ghost use Rattle.lines.specs.Lines.{Within};
