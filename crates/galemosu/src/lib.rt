@@ -1,12 +1,11 @@
 // The exports for C and Rust, nothing else: each takes whole numbers, f64s, slices and arrays, and answers 0 or a refusal's number.
 use crate::wire::costs_of;
+use crate::wire::put_three;
 use crate::wire::quantise;
 use price::Settings;
 use refusals::Component;
-use refusals::component_number;
 use refusals::number;
 use subblock::Request;
-use subblock::SubBlockAnswer;
 use subblock::sub_block_tq;
 use transform::TransAnswer;
 use transform::trans;
@@ -149,22 +148,6 @@ pub extern "C" fn galemosu_sub_block(
         coded: intra_coded != 0,
         costs: costs_of(costs),
     };
-    match sub_block_tq(buffer, q) {
-        SubBlockAnswer::Coded(y, u, v) => {
-            *answer = [
-                0,
-                y.count as u64,
-                u.count as u64,
-                v.count as u64,
-                y.price,
-                u.price,
-                v.price,
-            ];
-            0
-        }
-        SubBlockAnswer::Refused(why, k) => {
-            *answer = [component_number(k) as u64, 0, 0, 0, 0, 0, 0];
-            number(why)
-        }
-    }
+    let coded = sub_block_tq(buffer, q);
+    put_three(coded, answer)
 }

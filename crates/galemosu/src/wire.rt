@@ -7,10 +7,12 @@ use quantise::quant_nnz;
 use refusals::Component;
 use refusals::component_number;
 use refusals::number;
+use subblock::SubBlockAnswer;
 ghost use mathlib.Core.Path.{_≡_};
 ghost use Prim.Native.Nat.{_≤_};
 ghost use Rattle.quantise.specs.Call.{quantAnswer, quantBuffer};
-ghost use Rattle.galemosu.specs.Wire.{fourFrom, eightFrom, costsIn, quantAsked, quantResult, quantWritten};
+ghost use Rattle.subblock.specs.Call.{paperOf};
+ghost use Rattle.galemosu.specs.Wire.{fourFrom, eightFrom, costsIn, quantAsked, quantResult, quantWritten, threeResult, threeWritten};
 
 fn four(c: &[u64; 28], i: usize) -> [u64; 4]
     requires { ⌜ i ≤ 24 ⌝ }
@@ -81,6 +83,31 @@ pub fn quantise(
         }
         QuantAnswer::Refused(why, k) => {
             *answer = [component_number(k) as u64, 0, 0];
+            number(why)
+        }
+    }
+}
+
+// What the three-component call answered, as its result and its answer.
+pub fn put_three(coded: SubBlockAnswer, answer: &mut [u64; 7]) -> u32
+    ensures result { λ r. ⌜ r ≡ threeResult (paperOf coded) ⌝ }
+    ensures answer { λ _. ⌜ now (answer .exit) ≡ threeWritten (paperOf coded) ⌝ }
+{
+    match coded {
+        SubBlockAnswer::Coded(y, u, v) => {
+            *answer = [
+                0,
+                y.count as u64,
+                u.count as u64,
+                v.count as u64,
+                y.price,
+                u.price,
+                v.price,
+            ];
+            0
+        }
+        SubBlockAnswer::Refused(why, k) => {
+            *answer = [component_number(k) as u64, 0, 0, 0, 0, 0, 0];
             number(why)
         }
     }
