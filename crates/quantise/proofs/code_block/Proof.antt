@@ -15,7 +15,7 @@ use Rattle.refusals.proofs.First.{here, later, but, end}
 use Rattle.price.specs.Level.{scaled}
 use Rattle.price.specs.Costs.{Rows}
 use Rattle.price.proofs.Rates.{costs-in-range}
-use Rattle.quantise.specs.Block.{called, rowsOf, isSkipped, lambdaHere}
+use Rattle.quantise.specs.Block.{Quant, called, rowsOf, isSkipped, lambdaHere}
 use Rattle.quantise.specs.Call.{sampleFault, levelFault, priceFault, distortionFault, largestHere, uncodedHere}
 use Rattle.quantise.specs.Code.{Held, pricesOf}
 use Rattle.quantise.proofs.Scaling.{scale-range}
@@ -25,16 +25,52 @@ use Rattle.quantise.proofs.Answer.{refused-answer, skipped-here, larges
 use Rattle.quantise.proofs.code_block.Statement.{statement}
 use Rattle.quantise.proofs.code_block.Tie as tie
 
+-- from the branch past a test to the branch past the one before it
+abbrev else-1 : tie.Else2 → tie.Else1
+else-1 c = c .before .before .before .before
+
+abbrev else-2 : tie.Else3 → tie.Else2
+else-2 c = c .before .before
+
+abbrev else-3 : tie.Else4 → tie.Else3
+else-3 c = c .before .before
+
+abbrev else-4 : tie.Else5 → tie.Else4
+else-4 c = c .before .before .before
+
+-- the call's inputs where a step begins, by the last test before it
+abbrev start-walked : tie.After-is-walked → tie.Start
+start-walked c = c .before .before .before .before
+
+abbrev start-1 : tie.Else1 → tie.Start
+start-1 c = start-walked (c .before)
+
+abbrev start-2 : tie.Else2 → tie.Start
+start-2 c = start-1 (else-1 c)
+
+abbrev start-3 : tie.Else3 → tie.Start
+start-3 c = start-2 (else-2 c)
+
+abbrev start-4 : tie.Else4 → tie.Start
+start-4 c = start-3 (else-3 c)
+
+abbrev start-5 : tie.Else5 → tie.Start
+start-5 c = start-4 (else-4 c)
+
+-- the call that they ask for
+abbrev asked : tie.Start → Quant
+asked s = called (s .args .block .now) (s .args .log2-side) (s .args .component) (s .args .settings) (s .args .intra-slice) (s .args .intra-coded) (s .args .costs)
+
 -- whether the block is skipped
-skipped-is : (c : tie.After-is-walked) → isSkipped (called (c .before .before .before .before .args .block .now) (c .before .before .before .before .args .log2-side) (c .before .before .before .before .args .component) (c .before .before .before .before .args .settings) (c .before .before .before .before .args .intra-slice) (c .before .before .before .before .args .intra-coded) (c .before .before .before .before .args .costs)) ≡ not (c .is-walked .result)
+skipped-is : (c : tie.After-is-walked) → isSkipped (asked (start-walked c)) ≡ not (c .is-walked .result)
 skipped-is c =
-    let s = c .before .before .before .before in
+    let s = start-walked c in
     skipped-here (s .args .block .now) (s .args .log2-side) (s .args .component) (s .args .settings) (s .args .intra-slice) (s .args .intra-coded) (s .args .costs) (s .pre .0) (s .pre .1) (s .pre .5)
     ∙ ap (λ (n : ℕ). not (some (λ z. leb n (scaled (scaleOf forward (s .args .settings .qp)) z)) (s .args .block .now))) (sym (c .before .before .before .skip-threshold .ensures .0))
     ∙ ap (λ (q : ℕ). not (some (λ z. leb (c .before .before .before .skip-threshold .result) (scaled q z)) (s .args .block .now))) (sym (c .before .scale .ensures))
     ∙ ap not (sym (c .is-walked .ensures))
 
-walked : (c : tie.Else1) → isSkipped (called (c .before .before .before .before .before .args .block .now) (c .before .before .before .before .before .args .log2-side) (c .before .before .before .before .before .args .component) (c .before .before .before .before .before .args .settings) (c .before .before .before .before .before .args .intra-slice) (c .before .before .before .before .before .args .intra-coded) (c .before .before .before .before .before .args .costs)) ≡ false
+walked : (c : tie.Else1) → isSkipped (asked (start-1 c)) ≡ false
 walked c = skipped-is (c .before) ∙ c .if1 .left
 
 -- the largest coefficient is no -32768
@@ -44,57 +80,74 @@ few c = below-next _ (c .before .largest .ensures .small) (c .if2 .left)
     below-next : (n : ℕ) → n ≤ 32768 → (n ≡ 32768 → ⊥) → n ≤ 32767
     below-next n h ne = omega arith
 
-sample-no : (c : tie.Else2) → sampleFault .holds (called (c .before .before .before .before .before .before .before .before .before .args .block .now) (c .before .before .before .before .before .before .before .before .before .args .log2-side) (c .before .before .before .before .before .before .before .before .before .args .component) (c .before .before .before .before .before .before .before .before .before .args .settings) (c .before .before .before .before .before .before .before .before .before .args .intra-slice) (c .before .before .before .before .before .before .before .before .before .args .intra-coded) (c .before .before .before .before .before .before .before .before .before .args .costs)) ≡ false
+sample-no : (c : tie.Else2) → sampleFault .holds (asked (start-2 c)) ≡ false
 sample-no c =
-    let s = c .before .before .before .before .before .before .before .before .before in
+    let s = start-2 c in
     sample-here (s .args .block .now) (s .args .log2-side) (s .args .component) (s .args .settings) (s .args .intra-slice) (s .args .intra-coded) (s .args .costs) (s .pre .0) (s .pre .1) (s .pre .5) false (c .before .largest .ensures .lowest ∙ ne-eqb _ 32768 (c .if2 .left))
 
 -- M
-largest-is : (c : tie.After-rounded) → largestHere (called (c .before .before .before .before .before .before .before .before .before .before .args .block .now) (c .before .before .before .before .before .before .before .before .before .before .args .log2-side) (c .before .before .before .before .before .before .before .before .before .before .args .component) (c .before .before .before .before .before .before .before .before .before .before .args .settings) (c .before .before .before .before .before .before .before .before .before .before .args .intra-slice) (c .before .before .before .before .before .before .before .before .before .before .args .intra-coded) (c .before .before .before .before .before .before .before .before .before .before .args .costs)) ≡ c .rounded .result
+largest-is : (c : tie.After-rounded) → largestHere (asked (start-2 (c .before))) ≡ c .rounded .result
 largest-is c =
-    let s = c .before .before .before .before .before .before .before .before .before .before in
+    let s = start-2 (c .before) in
     let g = c .before .before .before .before in
     largest-here (s .args .block .now) (s .args .log2-side) (s .args .component) (s .args .settings) (s .args .intra-slice) (s .args .intra-coded) (s .args .costs) (s .pre .0) (s .pre .1) (s .pre .5) (g .scale-of .result) (g .scale-of .ensures) (c .before .before .largest .result) (c .before .before .largest .ensures .is) ∙ sym (c .rounded .ensures .0)
 
-level-no : (c : tie.Else3) → levelFault .holds (called (c .before .before .before .before .before .before .before .before .before .before .before .args .block .now) (c .before .before .before .before .before .before .before .before .before .before .before .args .log2-side) (c .before .before .before .before .before .before .before .before .before .before .before .args .component) (c .before .before .before .before .before .before .before .before .before .before .before .args .settings) (c .before .before .before .before .before .before .before .before .before .before .before .args .intra-slice) (c .before .before .before .before .before .before .before .before .before .before .before .args .intra-coded) (c .before .before .before .before .before .before .before .before .before .before .before .args .costs)) ≡ false
+level-no : (c : tie.Else3) → levelFault .holds (asked (start-3 c)) ≡ false
 level-no c =
-    let s = c .before .before .before .before .before .before .before .before .before .before .before in
-    level-here (s .args .block .now) (s .args .log2-side) (s .args .component) (s .args .settings) (s .args .intra-slice) (s .args .intra-coded) (s .args .costs) (s .pre .0) (s .pre .1) (s .pre .5) (walked (c .before .before .before .before .before .before)) false (ap (ltb 32767) (largest-is (c .before)) ∙ le-ltb 32767 (c .before .rounded .result) (omega (arith, c .if3 .left)))
+    let e3 = c in
+    let e2 = else-2 e3 in
+    let e1 = else-1 e2 in
+    let s = start-3 c in
+    level-here (s .args .block .now) (s .args .log2-side) (s .args .component) (s .args .settings) (s .args .intra-slice) (s .args .intra-coded) (s .args .costs) (s .pre .0) (s .pre .1) (s .pre .5) (walked e1) false (ap (ltb 32767) (largest-is (c .before)) ∙ le-ltb 32767 (c .before .rounded .result) (omega (arith, c .if3 .left)))
 
 -- lambda·(M + 1), as code has it
 weight-is : (c : tie.After-lambda-whole)
-    → (let s = c .before .before .before .before .before .before .before .before .before .before .before .before in
-    lambdaHere (called (s .args .block .now) (s .args .log2-side) (s .args .component) (s .args .settings) (s .args .intra-slice) (s .args .intra-coded) (s .args .costs)) * suc (largestHere (called (s .args .block .now) (s .args .log2-side) (s .args .component) (s .args .settings) (s .args .intra-slice) (s .args .intra-coded) (s .args .costs))) ≡ c .lambda-whole .result * (c .before .before .rounded .result + 1))
+    → (let s = start-3 (c .before) in
+    lambdaHere (asked s) * suc (largestHere (asked s)) ≡ c .lambda-whole .result * (c .before .before .rounded .result + 1))
 unfolding lambdaHere called
 weight-is c =
     rw (largest-is (c .before .before), add-one)
     (ap (λ (n : ℕ). n * suc (c .before .before .rounded .result)) (sym (c .lambda-whole .ensures .is)))
 
-price-no : (c : tie.Else4) → priceFault .holds (called (c .before .before .before .before .before .before .before .before .before .before .before .before .before .args .block .now) (c .before .before .before .before .before .before .before .before .before .before .before .before .before .args .log2-side) (c .before .before .before .before .before .before .before .before .before .before .before .before .before .args .component) (c .before .before .before .before .before .before .before .before .before .before .before .before .before .args .settings) (c .before .before .before .before .before .before .before .before .before .before .before .before .before .args .intra-slice) (c .before .before .before .before .before .before .before .before .before .before .before .before .before .args .intra-coded) (c .before .before .before .before .before .before .before .before .before .before .before .before .before .args .costs)) ≡ false
+price-no : (c : tie.Else4) → priceFault .holds (asked (start-4 c)) ≡ false
 price-no c =
-    let s = c .before .before .before .before .before .before .before .before .before .before .before .before .before in
-    price-here (s .args .block .now) (s .args .log2-side) (s .args .component) (s .args .settings) (s .args .intra-slice) (s .args .intra-coded) (s .args .costs) (s .pre .0) (s .pre .1) (s .pre .5) (walked (c .before .before .before .before .before .before .before .before)) false (ap (ltb (2 ^ 41)) (weight-is (c .before)) ∙ le-ltb (2 ^ 41) _ (c .if4 .left))
+    let e4 = c in
+    let e3 = else-3 e4 in
+    let e2 = else-2 e3 in
+    let e1 = else-1 e2 in
+    let s = start-4 c in
+    price-here (s .args .block .now) (s .args .log2-side) (s .args .component) (s .args .settings) (s .args .intra-slice) (s .args .intra-coded) (s .args .costs) (s .pre .0) (s .pre .1) (s .pre .5) (walked e1) false (ap (ltb (2 ^ 41)) (weight-is (c .before)) ∙ le-ltb (2 ^ 41) _ (c .if4 .left))
 
 -- D
-sum-held : (c : tie.After-uncoded) → Held (uncodedHere (called (c .before .before .before .before .before .before .before .before .before .before .before .before .before .before .before .args .block .now) (c .before .before .before .before .before .before .before .before .before .before .before .before .before .before .before .args .log2-side) (c .before .before .before .before .before .before .before .before .before .before .before .before .before .before .before .args .component) (c .before .before .before .before .before .before .before .before .before .before .before .before .before .before .before .args .settings) (c .before .before .before .before .before .before .before .before .before .before .before .before .before .before .before .args .intra-slice) (c .before .before .before .before .before .before .before .before .before .before .before .before .before .before .before .args .intra-coded) (c .before .before .before .before .before .before .before .before .before .before .before .before .before .before .before .args .costs))) (c .uncoded .result)
+sum-held : (c : tie.After-uncoded) → Held (uncodedHere (asked (start-4 (c .before .before)))) (c .uncoded .result)
 sum-held c =
-    let s = c .before .before .before .before .before .before .before .before .before .before .before .before .before .before .before in
-    let g = c .before .before .before .before .before .before .before .before .before in
+    let e4 = c .before .before in
+    let e3 = else-3 e4 in
+    let e2 = else-2 e3 in
+    let s = start-4 (c .before .before) in
+    let g = e2 .before .before .before in
     subst (λ (n : ℕ). Held n (c .uncoded .result)) (sym (uncoded-here (s .args .block .now) (s .args .log2-side) (s .args .component) (s .args .settings) (s .args .intra-slice) (s .args .intra-coded) (s .args .costs) (s .pre .0) (s .pre .1) (s .pre .5) (g .scale-of .result) (g .scale-of .ensures))) (c .uncoded .ensures)
 
-distortion-no : (c : tie.Else5) → distortionFault .holds (called (c .before .before .before .before .before .before .before .before .before .before .before .before .before .before .before .before .args .block .now) (c .before .before .before .before .before .before .before .before .before .before .before .before .before .before .before .before .args .log2-side) (c .before .before .before .before .before .before .before .before .before .before .before .before .before .before .before .before .args .component) (c .before .before .before .before .before .before .before .before .before .before .before .before .before .before .before .before .args .settings) (c .before .before .before .before .before .before .before .before .before .before .before .before .before .before .before .before .args .intra-slice) (c .before .before .before .before .before .before .before .before .before .before .before .before .before .before .before .before .args .intra-coded) (c .before .before .before .before .before .before .before .before .before .before .before .before .before .before .before .before .args .costs)) ≡ false
+distortion-no : (c : tie.Else5) → distortionFault .holds (asked (start-5 c)) ≡ false
 distortion-no c =
-    let s = c .before .before .before .before .before .before .before .before .before .before .before .before .before .before .before .before in
-    distortion-here (s .args .block .now) (s .args .log2-side) (s .args .component) (s .args .settings) (s .args .intra-slice) (s .args .intra-coded) (s .args .costs) (s .pre .0) (s .pre .1) (s .pre .5) (walked (c .before .before .before .before .before .before .before .before .before .before .before)) false (le-ltb (2 ^ 60) _ (held-is _ _ (sum-held (c .before)) (c .if5 .left) .1))
+    let e5 = c in
+    let e4 = else-4 e5 in
+    let e3 = else-3 e4 in
+    let e2 = else-2 e3 in
+    let e1 = else-1 e2 in
+    let s = start-5 c in
+    distortion-here (s .args .block .now) (s .args .log2-side) (s .args .component) (s .args .settings) (s .args .intra-slice) (s .args .intra-coded) (s .args .costs) (s .pre .0) (s .pre .1) (s .pre .5) (walked e1) false (le-ltb (2 ^ 60) _ (held-is _ _ (sum-held (c .before)) (c .if5 .left) .1))
 
 -- the prices are the rule's
 prices-are : (c : tie.After-prices-of)
-    → (let s = c .before .before .before .before .before .before .before .before .before .before .before .before .before .before .before .before .before .before in
-    c .prices-of .result ≡ pricesOf 32768 (lambdaHere (called (s .args .block .now) (s .args .log2-side) (s .args .component) (s .args .settings) (s .args .intra-slice) (s .args .intra-coded) (s .args .costs))) (s .args .costs) (rowsOf (s .args .component) (s .args .intra-coded)))
+    → (let s = start-5 (c .before .before) in
+    c .prices-of .result ≡ pricesOf 32768 (lambdaHere (asked s)) (s .args .costs) (rowsOf (s .args .component) (s .args .intra-coded)))
 unfolding lambdaHere called
 prices-are c =
-    let s = c .before .before .before .before .before .before .before .before .before .before .before .before .before .before .before .before .before .before in
-    let lambda = c .before .before .before .before .before .before .lambda-whole in
+    let e5 = c .before .before in
+    let e4 = else-4 e5 in
+    let s = start-5 (c .before .before) in
+    let lambda = e4 .before .lambda-whole in
     c .prices-of .ensures .is
     ∙ ap (λ (r : Rows). pricesOf 32768 (lambda .result) (s .args .costs) r) (c .before .contexts-of .ensures .is)
     ∙ ap (λ (n : ℕ). pricesOf 32768 n (s .args .costs) (rowsOf (s .args .component) (s .args .intra-coded))) (lambda .ensures .is)
@@ -117,7 +170,7 @@ same-length c = search needs
 
 returns : tie.Need-returns
 returns c =
-    let s = c .before .before .before .before .before .before .before .before in
+    let s = start-walked (c .before .before .before .before) in
     let thr = c .before .before .before .before .before .before .before .skip-threshold .ensures in
     let none =
     lowest-reaches (c .before .before .before .before .before .before .before .skip-threshold .result) (c .before .before .before .before .before .scale .result)
@@ -138,9 +191,9 @@ same-length-2 c = search needs
 returns-2 : tie.Need-returns-2
 unfolding called sampleFault
 returns-2 c =
-    let s = c .before .before .before .before .before .before .before .before .before in
+    let s = start-1 (c .before .before .before .before) in
     let e =
-    refused-answer (called (s .args .block .now) (s .args .log2-side) (s .args .component) (s .args .settings) (s .args .intra-slice) (s .args .intra-coded) (s .args .costs))
+    refused-answer (asked s)
     (past-five (s .args .block .now) (s .args .log2-side) (s .args .component) (s .args .settings) (s .args .intra-slice) (s .args .intra-coded) (s .args .costs) (s .pre .0) (s .pre .1) (s .pre .5) (s .pre .2) (s .pre .3) (s .pre .4) (here (sample-here (s .args .block .now) (s .args .log2-side) (s .args .component) (s .args .settings) (s .args .intra-slice) (s .args .intra-coded) (s .args .costs) (s .pre .0) (s .pre .1) (s .pre .5) true (c .before .largest .ensures .lowest ∙ eq-eqb _ 32768 (c .if2 .taken))))) in
     (sym (e .0), sym (e .1))
 
@@ -153,9 +206,9 @@ same-length-3 c = search needs
 returns-3 : tie.Need-returns-3
 unfolding called levelFault
 returns-3 c =
-    let s = c .before .before .before .before .before .before .before .before .before .before .before in
+    let s = start-2 (c .before .before) in
     let e =
-    refused-answer (called (s .args .block .now) (s .args .log2-side) (s .args .component) (s .args .settings) (s .args .intra-slice) (s .args .intra-coded) (s .args .costs))
+    refused-answer (asked s)
     (past-five (s .args .block .now) (s .args .log2-side) (s .args .component) (s .args .settings) (s .args .intra-slice) (s .args .intra-coded) (s .args .costs) (s .pre .0) (s .pre .1) (s .pre .5) (s .pre .2) (s .pre .3) (s .pre .4) (later (sample-no (c .before .before)) (here (level-here (s .args .block .now) (s .args .log2-side) (s .args .component) (s .args .settings) (s .args .intra-slice) (s .args .intra-coded) (s .args .costs) (s .pre .0) (s .pre .1) (s .pre .5) (walked (c .before .before .before .before .before .before)) true (ap (ltb 32767) (largest-is (c .before)) ∙ lt-ltb 32767 _ (c .if3 .taken)))))) in
     (sym (e .0), sym (e .1))
 
@@ -175,17 +228,23 @@ same-length-4 c = search needs
 returns-4 : tie.Need-returns-4
 unfolding called priceFault
 returns-4 c =
-    let s = c .before .before .before .before .before .before .before .before .before .before .before .before .before in
+    let e3 = c .before .before in
+    let e2 = else-2 e3 in
+    let e1 = else-1 e2 in
+    let s = start-3 (c .before .before) in
     let e =
-    refused-answer (called (s .args .block .now) (s .args .log2-side) (s .args .component) (s .args .settings) (s .args .intra-slice) (s .args .intra-coded) (s .args .costs))
-    (past-five (s .args .block .now) (s .args .log2-side) (s .args .component) (s .args .settings) (s .args .intra-slice) (s .args .intra-coded) (s .args .costs) (s .pre .0) (s .pre .1) (s .pre .5) (s .pre .2) (s .pre .3) (s .pre .4) (later (sample-no (c .before .before .before .before)) (later (level-no (c .before .before)) (here (price-here (s .args .block .now) (s .args .log2-side) (s .args .component) (s .args .settings) (s .args .intra-slice) (s .args .intra-coded) (s .args .costs) (s .pre .0) (s .pre .1) (s .pre .5) (walked (c .before .before .before .before .before .before .before .before)) true (ap (ltb (2 ^ 41)) (weight-is (c .before)) ∙ lt-ltb (2 ^ 41) _ (c .if4 .taken))))))) in
+    refused-answer (asked s)
+    (past-five (s .args .block .now) (s .args .log2-side) (s .args .component) (s .args .settings) (s .args .intra-slice) (s .args .intra-coded) (s .args .costs) (s .pre .0) (s .pre .1) (s .pre .5) (s .pre .2) (s .pre .3) (s .pre .4) (later (sample-no e2) (later (level-no (c .before .before)) (here (price-here (s .args .block .now) (s .args .log2-side) (s .args .component) (s .args .settings) (s .args .intra-slice) (s .args .intra-coded) (s .args .costs) (s .pre .0) (s .pre .1) (s .pre .5) (walked e1) true (ap (ltb (2 ^ 41)) (weight-is (c .before)) ∙ lt-ltb (2 ^ 41) _ (c .if4 .taken))))))) in
     (sym (e .0), sym (e .1))
 
 uncoded-requires : tie.Need-uncoded-requires
 uncoded-requires c κs =
-    let s = c .before .before .before .before .before .before .before .before .before .before .before .before .before .before in
-    let g = c .before .before .before .before .before .before .before .before in
-    (g .scale-of .ensures .sound, all-few (s .args .block .now) (c .before .before .before .before .before .before .largest .result) (c .before .before .before .before .before .before .largest .ensures .is) (few (c .before .before .before .before .before)))
+    let e4 = c .before in
+    let e3 = else-3 e4 in
+    let e2 = else-2 e3 in
+    let s = start-4 (c .before) in
+    let g = e2 .before .before .before in
+    (g .scale-of .ensures .sound, all-few (s .args .block .now) (e2 .before .largest .result) (e2 .before .largest .ensures .is) (few e2))
 
 same-length-5 : tie.Need-same-length-5
 same-length-5 c = search needs
@@ -193,10 +252,14 @@ same-length-5 c = search needs
 returns-5 : tie.Need-returns-5
 unfolding called distortionFault
 returns-5 c =
-    let s = c .before .before .before .before .before .before .before .before .before .before .before .before .before .before .before .before in
+    let e4 = c .before .before .before in
+    let e3 = else-3 e4 in
+    let e2 = else-2 e3 in
+    let e1 = else-1 e2 in
+    let s = start-4 (c .before .before .before) in
     let e =
-    refused-answer (called (s .args .block .now) (s .args .log2-side) (s .args .component) (s .args .settings) (s .args .intra-slice) (s .args .intra-coded) (s .args .costs))
-    (past-five (s .args .block .now) (s .args .log2-side) (s .args .component) (s .args .settings) (s .args .intra-slice) (s .args .intra-coded) (s .args .costs) (s .pre .0) (s .pre .1) (s .pre .5) (s .pre .2) (s .pre .3) (s .pre .4) (later (sample-no (c .before .before .before .before .before .before .before)) (later (level-no (c .before .before .before .before .before)) (later (price-no (c .before .before .before)) (here (distortion-here (s .args .block .now) (s .args .log2-side) (s .args .component) (s .args .settings) (s .args .intra-slice) (s .args .intra-coded) (s .args .costs) (s .pre .0) (s .pre .1) (s .pre .5) (walked (c .before .before .before .before .before .before .before .before .before .before .before)) true (lt-ltb (2 ^ 60) _ (held-beyond _ _ (sum-held (c .before)) (c .if5 .taken))))))))) in
+    refused-answer (asked s)
+    (past-five (s .args .block .now) (s .args .log2-side) (s .args .component) (s .args .settings) (s .args .intra-slice) (s .args .intra-coded) (s .args .costs) (s .pre .0) (s .pre .1) (s .pre .5) (s .pre .2) (s .pre .3) (s .pre .4) (later (sample-no e2) (later (level-no e3) (later (price-no (c .before .before .before)) (here (distortion-here (s .args .block .now) (s .args .log2-side) (s .args .component) (s .args .settings) (s .args .intra-slice) (s .args .intra-coded) (s .args .costs) (s .pre .0) (s .pre .1) (s .pre .5) (walked e1) true (lt-ltb (2 ^ 60) _ (held-beyond _ _ (sum-held (c .before)) (c .if5 .taken))))))))) in
     (sym (e .0), sym (e .1))
 
 contexts-of-requires : tie.Need-contexts-of-requires
@@ -204,18 +267,27 @@ contexts-of-requires c κs = search needs
 
 prices-of-requires : tie.Need-prices-of-requires
 prices-of-requires c κs =
-    (costs-in-range (c .before .before .before .before .before .before .before .before .before .before .before .before .before .before .before .before .before .pre .4), c .contexts-of .ensures .inside, c .before .before .before .before .before .lambda-whole .ensures .greatest .within)
+    let e5 = c .before in
+    let e4 = else-4 e5 in
+    let e3 = else-3 e4 in
+    let e2 = else-2 e3 in
+    let e1 = else-1 e2 in
+    (costs-in-range (e1 .before .before .before .before .before .pre .4), c .contexts-of .ensures .inside, e4 .before .lambda-whole .ensures .greatest .within)
 
 code-levels-requires : tie.Need-code-levels-requires
 code-levels-requires c κs =
-    let s = c .before .before .before .before .before .before .before .before .before .before .before .before .before .before .before .before .before .before .before in
-    let g = c .before .before .before .before .before .before .before .before .before .before .before .before .before in
-    let top = c .before .before .before .before .before .before .before .before .before .before .before .largest in
-    let m = c .before .before .before .before .before .before .before .before .before .rounded in
-    let lambda = c .before .before .before .before .before .before .before .lambda-whole in
-    let d = held-is _ _ (sum-held (c .before .before .before .before)) (c .before .before .before .if5 .left) in
+    let e5 = c .before .before .before in
+    let e4 = else-4 e5 in
+    let e3 = else-3 e4 in
+    let e2 = else-2 e3 in
+    let s = start-5 (c .before .before .before) in
+    let g = e2 .before .before .before in
+    let top = e2 .before .largest in
+    let m = e3 .before .rounded in
+    let lambda = e4 .before .lambda-whole in
+    let d = held-is _ _ (sum-held (e5 .before)) (c .before .before .before .if5 .left) in
     let each = each-small 32768 _ (s .args .costs) _ _ (costs-in-range (s .pre .4)) (c .before .prices-of .ensures .is) in
-    let small = few (c .before .before .before .before .before .before .before .before .before .before) in (
+    let small = few e2 in (
       s .pre .0,
       s .pre .1,
       record {
@@ -224,8 +296,8 @@ code-levels-requires c κs =
         room = s .pre .5;
         fine =
             all-fine (s .args .block .now) (top .result) (top .ensures .is) small (g .scale-of .result) (g .scale-of .ensures .sound)
-            (c .before .prices-of .result) (lambda .result) (m .result) (m .ensures .0) (c .before .before .before .before .before .before .before .before .if3 .left)
-            (omega (arith, c .before .before .before .before .before .before .if4 .left, add-one (m .result))) each;
+            (c .before .prices-of .result) (lambda .result) (m .result) (m .ensures .0) (e3 .if3 .left)
+            (omega (arith, e4 .if4 .left, add-one (m .result))) each;
         few = all-few (s .args .block .now) (top .result) (top .ensures .is) small;
         is = d .0 ∙ uncoded-is (s .args .block .now) (s .args .log2-side) (s .args .component) (s .args .settings) (s .args .intra-slice) (s .args .intra-coded) (s .args .costs) (s .pre .0) (s .pre .1) (s .pre .5) (g .scale-of .result) (g .scale-of .ensures) (c .before .prices-of .result) (prices-are (c .before));
         small = c .before .before .before .if5 .left;
@@ -237,11 +309,16 @@ same-length-6 c = search needs
 
 returns-6 : tie.Need-returns-6
 returns-6 c =
-    let s = c .before .before .before .before .before .before .before .before .before .before .before .before .before .before .before .before .before .before .before .before .before in
-    let g = c .before .before .before .before .before .before .before .before .before .before .before .before .before .before .before in
+    let e5 = c .before .before .before .before .before in
+    let e4 = else-4 e5 in
+    let e3 = else-3 e4 in
+    let e2 = else-2 e3 in
+    let e1 = else-1 e2 in
+    let s = start-5 e5 in
+    let g = e2 .before .before .before in
     let a =
-    coded-answer (s .args .block .now) (s .args .log2-side) (s .args .component) (s .args .settings) (s .args .intra-slice) (s .args .intra-coded) (s .args .costs) (s .pre .0) (s .pre .1) (s .pre .5) (g .scale-of .result) (g .scale-of .ensures) (s .pre .2) (s .pre .3) (s .pre .4) (walked (c .before .before .before .before .before .before .before .before .before .before .before .before .before .before .before .before))
-    (but (sample-no (c .before .before .before .before .before .before .before .before .before .before .before .before)) (but (level-no (c .before .before .before .before .before .before .before .before .before .before)) (but (price-no (c .before .before .before .before .before .before .before .before)) (but (distortion-no (c .before .before .before .before .before)) end))))
+    coded-answer (s .args .block .now) (s .args .log2-side) (s .args .component) (s .args .settings) (s .args .intra-slice) (s .args .intra-coded) (s .args .costs) (s .pre .0) (s .pre .1) (s .pre .5) (g .scale-of .result) (g .scale-of .ensures) (s .pre .2) (s .pre .3) (s .pre .4) (walked e1)
+    (but (sample-no e2) (but (level-no e3) (but (price-no e4) (but (distortion-no e5) end))))
     (c .before .before .before .prices-of .result) (prices-are (c .before .before .before)) _ _ (c .before .code-levels .ensures) in
     (sym (a .0), sym (a .1))
 
