@@ -5,3 +5,5 @@ pub mod Rule
 pub mod Price
 pub mod Walk
 pub mod OnePass
+pub mod Cheapest
+pub mod Search

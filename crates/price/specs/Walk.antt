@@ -10,11 +10,11 @@ use Rattle.price.specs.Rule.{Rule, isZero, cost}
 use Rattle.price.specs.Price.{price}
 
 -- b where its value is strictly less, else a
-unfoldable pub cheaper : (ℕ → ℕ) → ℕ → ℕ → ℕ
+unfoldable pub cheaper : {A : Type 0} → (A → ℕ) → A → A → A
 cheaper f a b = cond (ltb (f b) (f a)) b a
 
--- of a and the numbers behind it the first of least value
-unfoldable pub firstLeast : (ℕ → ℕ) → ℕ → List ℕ → ℕ
+-- of a and those behind it the first of least value
+unfoldable pub firstLeast : {A : Type 0} → (A → ℕ) → A → List A → A
 unfolding cheaper
 firstLeast f a [] = a
 firstLeast f a (b ∷ bs) = firstLeast f (cheaper f a b) bs
