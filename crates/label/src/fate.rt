@@ -1,7 +1,7 @@
 // What became of a coefficient: its level beside its rounded magnitude.
-use quantise::scale::rounded;
-use quantise::scale::scale_of;
 use quantise::skip::magnitude;
+use rule::scale::rounded;
+use rule::scale::scale_of;
 ghost use mathlib.Core.Path.{_≡_};
 ghost use Prim.Native.Nat.{_≤_, _+_};
 ghost use lib.IntN.{natAbs};

@@ -9,3 +9,4 @@ pub mod Promises
 pub mod Bounds
 pub mod Tail
 pub mod Tests
+pub mod Counting

@@ -12,9 +12,11 @@ use Rattle.integers.proofs.Order.{below-or-not}
 use Rattle.price.specs.declared.Costs.{Costs}
 use Rattle.price.specs.Level.{scaled, magnitude}
 use Rattle.price.specs.Costs.{InRange, Rows, entry}
-use Rattle.quantise.specs.declared.scale.Scale.{Scale}
-use Rattle.quantise.specs.declared.prices.Prices.{Prices}
-use Rattle.quantise.specs.Code.{Sound, Fine, pricesOf, Held, Within}
+use Rattle.rule.specs.declared.scale.Scale.{Scale}
+use Rattle.rule.specs.declared.prices.Prices.{Prices}
+use Rattle.rule.specs.Scale.{Sound}
+use Rattle.rule.specs.Prices.{Fine, pricesOf}
+use Rattle.quantise.specs.Code.{Held, Within}
 use Rattle.quantise.proofs.Reaching.{magnitude-grows, within-largest}
 
 -- one step of a level costs at most lambda·2^20

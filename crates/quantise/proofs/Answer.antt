@@ -32,12 +32,15 @@ use Rattle.price.specs.Rule.{Rule}
 use Rattle.price.specs.Price.{uncoded, nonzeros, price}
 use Rattle.price.specs.Walk.{written}
 use Rattle.quantise.specs.declared.Coded.{Coded}
-use Rattle.quantise.specs.declared.scale.Scale.{Scale}
-use Rattle.quantise.specs.declared.prices.Prices.{Prices}
-use Rattle.quantise.specs.Block.{Quant, rowsOf, called, sideOf, area, scaleHere, shiftHere, lambdaHere, ruleOf, blockPlaces, scanned, places, isSkipped, largest, magnitudes, signs, laid, countOf, priceOf, quantised}
+use Rattle.rule.specs.declared.scale.Scale.{Scale}
+use Rattle.rule.specs.declared.prices.Prices.{Prices}
+use Rattle.rule.specs.Rows.{rowsOf}
+use Rattle.quantise.specs.Block.{Quant, called, sideOf, area, scaleHere, shiftHere, lambdaHere, ruleOf, blockPlaces, scanned, places, isSkipped, largest, magnitudes, signs, laid, countOf, priceOf, quantised}
 use Rattle.quantise.specs.Call.{sideFault, qpFault, lambdaFault, costFault, lengthFault, sampleFault, largestHere, levelFault, priceFault, uncodedHere, distortionFault, quantFaults, quantVerdict, coded, refusedWith, quantAnswer, quantBuffer}
-use Rattle.quantise.specs.Code.{ScaleOf, pricesOf, ruleBy, zeroDistortion, placesBy, inOrder, CodedAs}
-use Rattle.quantise.proofs.Pricing.{rate-weighed}
+use Rattle.rule.specs.Scale.{ScaleOf}
+use Rattle.rule.specs.Prices.{pricesOf, ruleBy}
+use Rattle.quantise.specs.Code.{zeroDistortion, placesBy, inOrder, CodedAs}
+use Rattle.rule.proofs.Pricing.{rate-weighed}
 use Rattle.quantise.proofs.Reaching.{largest-is}
 use Rattle.quantise.proofs.Signing.{signs-at, signs-length}
 use Rattle.quantise.proofs.Laid.{laid-length, laid-on-scan}

@@ -24,15 +24,18 @@ use Rattle.price.specs.Walk.{walked, cutAt, cutOf, written}
 use Rattle.price.specs.OnePass.{Totals, start, walk}
 use Rattle.price.proofs.OnePass.{one-pass-cut, one-pass-price}
 use Rattle.price.proofs.Promises.{written-length, written-zero-or-m-or-m-1}
-use Rattle.quantise.specs.declared.scale.Scale.{Scale}
-use Rattle.quantise.specs.declared.prices.Prices.{Prices}
-use Rattle.quantise.specs.declared.walk.Walk.{Walk}
+use Rattle.rule.specs.declared.scale.Scale.{Scale}
+use Rattle.rule.specs.declared.prices.Prices.{Prices}
+use Rattle.walk.specs.declared.Walk.{Walk}
 use Rattle.quantise.specs.Block.{signs}
-use Rattle.quantise.specs.Code.{Fine, ruleBy, totalsOf, keptOf, KeptAs, keptPlaces, Scanned, Begins, Standing, CutOver, inOrder, placesBy, Codable, CodedAs}
-use Rattle.quantise.proofs.Steps.{allowed-below}
-use Rattle.quantise.proofs.Reaching.{magnitude-of-0}
+use Rattle.rule.specs.Prices.{Fine, ruleBy}
+use Rattle.rule.specs.Places.{keptPlaces, Scanned, Weighable, Standing}
+use Rattle.walk.specs.Walking.{totalsOf, Begins, CutOver}
+use Rattle.quantise.specs.Code.{keptOf, KeptAs, inOrder, placesBy, Codable, CodedAs}
+use Rattle.walk.proofs.Steps.{allowed-below}
 use Rattle.quantise.proofs.Keeping.{kept-some, kept-places, same-walk, same-walked, kept-uncoded}
-use Rattle.quantise.proofs.Signing.{same-count, same-block, everywhere}
+use Rattle.rule.proofs.Places.{same-count, everywhere, nothing-there}
+use Rattle.quantise.proofs.Signing.{same-block}
 
 -- ---- a square block
 pub area-range : (most l : ℕ) → l ≤ most → 2 ^ l * 2 ^ l ≤ 2 ^ most * 2 ^ most
@@ -90,16 +93,16 @@ module _ (p : Prices) (g : Scale) (side : ℕ) (block : List ℤ) (d : ℕ) (hel
 
   nothing-fine : Fine p g (0 * g .q)
   nothing-fine =
-      let z : magnitude (g .shift) (0 * g .q) ≡ 0 = ap (magnitude (g .shift)) (zero-mul (g .q)) ∙ magnitude-of-0 (g .shift) (omega (arith, c .sound .low)) in
+      let z = nothing-there g (c .sound) 0 refl in
       record {
         near = omega (arith, ap (λ (x : ℕ). x * g .error) (zero-mul (g .q)), zero-mul (g .error));
         level = omega arith;
         price = omega (arith, ap (λ (x : ℕ). x * p .each) z, zero-mul (p .each));
       }
 
-  pub begins : Begins p g (firstWalk p d) side kept
+  weighable : Weighable p g side kept
   unfolding scaled
-  begins =
+  weighable =
       record {
         modest = c .modest;
         sound = c .sound;
@@ -108,7 +111,16 @@ module _ (p : Prices) (g : Scale) (side : ℕ) (block : List ℤ) (d : ℕ) (hel
         some =
             of-kept (λ (a : ℕ). 1 ≤ a → 1 ≤ magnitude (g .shift) (a * g .q)) (λ h. absurd (omega arith))
             (λ k h o. kept-some g (c .sound) (natAbs (at block k)) h);
-        left = omega (arith, ap (uncoded r) places-are, kept-uncoded g (c .sound) p (c .modest) zs, c .is);
+      }
+
+  kept-left : uncoded r (keptPlaces g side kept) ≤ d
+  kept-left = omega (arith, ap (uncoded r) places-are, kept-uncoded g (c .sound) p (c .modest) zs, c .is)
+
+  pub begins : Begins p g (firstWalk p d) side kept
+  begins =
+      record {
+        weighable = weighable;
+        left = omega (arith, kept-left);
         base = omega (arith, c .small, c .modest .coded);
       }
 

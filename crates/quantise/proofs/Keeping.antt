@@ -24,11 +24,14 @@ use Rattle.price.specs.OnePass.{Totals, step, walk}
 use Rattle.price.proofs.Tail.{quiet-chosen}
 use Rattle.price.proofs.Level.{distortion-of-0}
 use Rattle.price.proofs.Bounds.{step-within}
-use Rattle.quantise.specs.declared.scale.Scale.{Scale}
-use Rattle.quantise.specs.declared.prices.Prices.{Prices}
-use Rattle.quantise.specs.Code.{Sound, Modest, ruleBy, rateBy, keptOf, keptPlaces, Scanned, inOrder}
-use Rattle.quantise.proofs.Reaching.{magnitude-of-0}
-use Rattle.quantise.proofs.Weighing.{quiet}
+use Rattle.rule.specs.declared.scale.Scale.{Scale}
+use Rattle.rule.specs.declared.prices.Prices.{Prices}
+use Rattle.rule.specs.Scale.{Sound}
+use Rattle.rule.specs.Prices.{Modest, ruleBy, rateBy}
+use Rattle.rule.specs.Places.{keptPlaces, Scanned}
+use Rattle.quantise.specs.Code.{keptOf, inOrder}
+use Rattle.rule.proofs.Scaling.{magnitude-of-0}
+use Rattle.walk.proofs.Weighing.{quiet}
 
 pub kept-yes : (g : Scale) (z : ℤ) (a v : ℕ) → a ≡ natAbs z → g .least ≤ a → v ≡ a → v ≡ keptOf g z
 kept-yes g z a v e h q =

@@ -4,16 +4,10 @@ pub mod Accepted
 pub mod Promises
 pub mod Bounds
 pub mod Lists
-pub mod Scaling
-pub mod Pricing
 pub mod Samples
 pub mod Reaching
 pub mod Uncoding
-pub mod Errors
-pub mod Weighing
-pub mod Counting
 pub mod Signing
-pub mod Steps
 pub mod Keeping
 pub mod Coding
 pub mod Answer

@@ -10,7 +10,8 @@ use Rattle.refusals.specs.declared.Component.{Component}
 use Rattle.price.specs.declared.Costs.{Costs}
 use Rattle.price.specs.declared.Settings.{Settings}
 use Rattle.price.specs.Costs.{Rows, entry, runRow, rate}
-use Rattle.quantise.specs.Block.{Quant, coding, rowsOf, scaleHere, shiftHere, sideOf, lambdaHere, ruleOf, blockPlaces, scanned, places, isSkipped, magnitudes, countOf, priceOf, quantised}
+use Rattle.rule.specs.Rows.{rowsOf}
+use Rattle.quantise.specs.Block.{Quant, coding, scaleHere, shiftHere, sideOf, lambdaHere, ruleOf, blockPlaces, scanned, places, isSkipped, magnitudes, countOf, priceOf, quantised}
 
 -- the pair of a row is the same
 abbrev pub SamePair : List ℕ → List ℕ → ℕ → Type 0

@@ -15,6 +15,7 @@ use Rattle.integers.specs.Sum.{over, onMax, onOr}
 use Rattle.integers.specs.Tests.{some, eqℤ}
 use Rattle.integers.proofs.Order.{below-or-not}
 use Rattle.price.specs.Level.{scaled, magnitude}
+use Rattle.rule.proofs.Scaling.{magnitude-of-0}
 use Rattle.quantise.specs.Code.{Within}
 
 -- ---- a threshold
@@ -74,10 +75,6 @@ lowest-reaches t q h (z ∷ zs) e =
 pub magnitude-grows : (b L K : ℕ) → L ≤ K → magnitude b L ≤ magnitude b K
 unfolding magnitude
 magnitude-grows b L K h = shr-mono b (omega arith)
-
-pub magnitude-of-0 : (b : ℕ) → 1 ≤ b → magnitude b 0 ≡ 0
-unfolding magnitude
-magnitude-of-0 b h = div-eq-of-lt (omega (arith, pow-lt {i = b - 1} {j = b} (omega arith)))
 
 pub largest-is : (b q : ℕ) → 1 ≤ b → (l : List ℤ)
     → over onMax (λ z. magnitude b (scaled q z)) l ≡ magnitude b (over onMax natAbs l * q)

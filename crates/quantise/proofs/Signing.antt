@@ -18,8 +18,9 @@ use Rattle.tables.proofs.Order.{scan-hit, scan-over}
 use Rattle.price.specs.Level.{signed}
 use Rattle.price.specs.Price.{nonzeros}
 use Rattle.quantise.specs.Block.{signs, laid}
-use Rattle.quantise.specs.Code.{Scanned, Standing, inOrder}
-use Rattle.quantise.proofs.Counting.{ones, nonzeros-over}
+use Rattle.rule.specs.Places.{Scanned, Standing}
+use Rattle.quantise.specs.Code.{inOrder}
+use Rattle.price.proofs.Counting.{ones, nonzeros-over}
 use Rattle.quantise.proofs.Laid.{laid-length, laid-on-scan}
 
 -- ---- the levels by rows
@@ -72,33 +73,6 @@ signing-all before levels block i e h s =
 -- ---- the levels along the scan
 module _ (side : ℕ) (held : List ℕ) (sc : Scanned side held) (ls : List ℕ) (long : length ls ≡ side * side) (levels : List ℕ)
     (room : length levels ≡ side * side) (s : Standing side levels ls) where
-  in-order : map (λ p. getD levels p 0) (scan side side) ≡ ls
-  unfolding scanAt
-  in-order =
-      ext-getD 0 (map (λ p. getD levels p 0) (scan side side)) ls
-      (length-map (scan side side) (λ p. getD levels p 0) ∙ sc .full ∙ sym long)
-      (λ k l.
-      let h : k < side * side = omega (arith, length-map (scan side side) (λ p. getD levels p 0), sc .full) in
-      map-at 0 0 (λ p. getD levels p 0) (scan side side) k (omega (arith, sc .full)) ∙ s k h)
-
-  pub same-count : nonzeros levels ≡ nonzeros ls
-  same-count =
-      nonzeros-over levels
-      ∙ sym (ap (over onℕ ones) (take-all (side * side) levels (omega arith)))
-      ∙ sym (scan-over side side (sc .some) (sc .some) (sc .full) nats ones levels 0 (omega arith))
-      ∙ ap (over onℕ ones) in-order
-      ∙ sym (nonzeros-over ls)
-
-  -- what holds of every level walked holds of every level by rows
-  pub everywhere : (P : ℕ → Type 0) → P 0 → ((k : ℕ) → k < side * side → P (getD ls k 0)) → (b : ℕ) → P (getD levels b 0)
-  everywhere P none h b =
-      ⊎-elim
-      (λ (l : b < side * side).
-      let q = scan-hit side side (sc .some) (sc .some) (sc .full) b l in
-      subst (λ (j : ℕ). P (getD levels j 0)) (q .2) (subst P (sym (s (q .0) (q .1))) (h (q .0) (q .1))))
-      (λ (l : side * side ≤ b). subst P (sym (lib.ListN.List·getD-eq-default levels 0 (omega arith))) none)
-      (Rattle.integers.proofs.Order.below-or-not b (side * side))
-
   pub same-block : (block : List ℤ) → length block ≡ side * side → signs block levels ≡ laid (scan side side) (signs (inOrder side block) ls) block
   unfolding scanAt
   same-block block e =

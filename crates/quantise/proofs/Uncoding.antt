@@ -9,8 +9,9 @@ use native.Mathlib.Numerals.{add-one}
 use lib.IntN.{ℤ, natAbs}
 use Rattle.price.specs.Level.{scaled, square}
 use Rattle.price.proofs.Level.{distortion-of-0}
-use Rattle.quantise.specs.declared.scale.Scale.{Scale}
-use Rattle.quantise.specs.Code.{Sound, Held, zeroDistortion}
+use Rattle.rule.specs.declared.scale.Scale.{Scale}
+use Rattle.rule.specs.Scale.{Sound}
+use Rattle.quantise.specs.Code.{Held, zeroDistortion}
 
 abbrev pub zeroError : Scale → ℕ → ℕ
 zeroError g a = a * g .front - (a * g .rest + 1048575) / 1048576

@@ -11,7 +11,6 @@ use Rattle.integers.specs.Tests.{some}
 use Rattle.tables.specs.Scan.{scan}
 use Rattle.tables.specs.Scales.{forward, scaleOf, errorScale}
 use Rattle.refusals.specs.declared.Component.{Component}
-use Rattle.refusals.specs.declared.Component.the-variants.{Y, U, «V»}
 use Rattle.price.specs.declared.Costs.{Costs}
 use Rattle.price.specs.declared.Settings.{Settings}
 use Rattle.price.specs.Lambda.{lambdaOf}
@@ -20,6 +19,7 @@ use Rattle.price.specs.Costs.{Rows, entry, rate}
 use Rattle.price.specs.Rule.{Rule}
 use Rattle.price.specs.Price.{uncoded, nonzeros, price}
 use Rattle.price.specs.Walk.{written}
+use Rattle.rule.specs.Rows.{rowsOf}
 
 -- the inputs of a call: a buffer that begins with the coefficients of a block by rows, the log2 sides of the block, the component
 -- that the call is told, and what the block is coded by. The last three are no inputs in document 01, which fixes them.
@@ -34,12 +34,6 @@ pub record Quant : Type 0 where
   pub scales : List ℕ
   pub sign : ℕ
   pub rows : Rows
-
--- the rows that a component reads. cbf's are all, luma, cb, cr; luma's is all when not intra-coded
-unfoldable pub rowsOf : Component → Bool → Rows
-rowsOf Y intraCoded = record { run = 0; level = 0; last = 0; cbf = cond intraCoded 1 0 }
-rowsOf U intraCoded = record { run = 2; level = 2; last = 1; cbf = 2 }
-rowsOf «V» intraCoded = record { run = 2; level = 2; last = 1; cbf = 3 }
 
 -- what document 01 fixes: its scales, its rows, and 32768 for the sign
 unfoldable pub coding : List ℤ → (lw lh : ℕ) → Component → Settings → Bool → Bool → Costs → Quant

@@ -1,13 +1,14 @@
 // D, the sum of uncoded squares, in parts by 32-bit products. Past 2^60 it is no longer added, so that it cannot overflow; a part is as
 // long as 63 bits hold its squares, each below 2^30·front².
-use crate::scale::Scale;
 use crate::skip::magnitude;
 use crate::skip::part_end;
+use rule::scale::Scale;
 ghost use mathlib.Core.Path.{_≡_};
 ghost use Prim.Native.Nat.{_≤_, _*_, _^_};
 ghost use lib.ListN.{length};
 ghost use Rattle.integers.specs.Sum.{over, onℕ};
-ghost use Rattle.quantise.specs.Code.{Sound, Within, zeroDistortion, Held};
+ghost use Rattle.rule.specs.Scale.{Sound};
+ghost use Rattle.quantise.specs.Code.{Within, zeroDistortion, Held};
 
 fn squares(part: &[i16], g: Scale) -> u64
     requires { ⌜ Sound g × (length (now part) * (g .front * g .front) ≤ 2 ^ 33) × Within (now part) 32767 ⌝ }

@@ -1,17 +1,18 @@
 // From coefficients to levels, by rows: the magnitudes that the walk looks at, and the signs put back to those that it leaves.
 use crate::Coded;
-use crate::prices::Prices;
-use crate::scale::Scale;
 use crate::skip::magnitude;
-use crate::walk::Walk;
-use crate::walk::choose_levels;
+use rule::prices::Prices;
+use rule::scale::Scale;
 use tables::scan::fill_scan;
+use walk::Walk;
+use walk::choose_levels;
 ghost use mathlib.Core.Path.{_≡_};
 ghost use Prim.Native.Nat.{ℕ, _≤_, _^_};
 ghost use lib.ListN.{length, getD};
 ghost use Rattle.price.specs.Price.{nonzeros};
 ghost use Rattle.quantise.specs.Block.{signs};
-ghost use Rattle.quantise.specs.Code.{KeptAs, Cleared, Codable, CodedAs};
+ghost use Rattle.rule.specs.Places.{Cleared};
+ghost use Rattle.quantise.specs.Code.{KeptAs, Codable, CodedAs};
 
 // |c| where its m is above 0, else 0; how many are not 0.
 fn keep(block: &[i16], kept: &mut [u16], g: Scale) -> usize

@@ -1,11 +1,6 @@
 // The quantiser of a square block of coefficients: the quick skip, or the walk cut where the block is cheapest.
 use crate::distortion::uncoded;
 use crate::levels::code_levels;
-use crate::prices::contexts_of;
-use crate::prices::prices_of;
-use crate::scale::rounded;
-use crate::scale::scale_of;
-use crate::scale::skip_threshold;
 use crate::skip::clear;
 use crate::skip::is_walked;
 use crate::skip::largest;
@@ -17,6 +12,11 @@ use price::lambda_whole;
 use refusals::Component;
 use refusals::Refusal;
 use refusals::no_side;
+use rule::prices::contexts_of;
+use rule::prices::prices_of;
+use rule::scale::rounded;
+use rule::scale::scale_of;
+use rule::scale::skip_threshold;
 ghost use mathlib.Core.Path.{_≡_};
 ghost use mathlib.Core.Bool.{false};
 ghost use Prim.Native.Nat.{_≤_, _*_, _^_};
@@ -28,10 +28,7 @@ ghost use Rattle.quantise.specs.Call.{paperOf, quantAnswer, quantBuffer}
 
 mod distortion;
 mod levels;
-mod prices;
-pub mod scale;
 pub mod skip;
-mod walk;
 
 // The count of nonzero levels, and the price.
 pub struct Coded {

@@ -13,7 +13,8 @@ use Rattle.refusals.specs.declared.Component.the-variants.{Y}
 use Rattle.transform.specs.Coefficients.{coefficients}
 use Rattle.price.specs.declared.Costs.{Costs}
 use Rattle.price.specs.Costs.{entry, runRow}
-use Rattle.quantise.specs.Block.{Quant, coding, rowsOf, countOf, priceOf, quantised}
+use Rattle.rule.specs.Rows.{rowsOf}
+use Rattle.quantise.specs.Block.{Quant, coding, countOf, priceOf, quantised}
 use Rattle.quantise.proofs.OwnRows.{SamePair, SameRows}
 use Rattle.quantise.proofs.OwnRows as own
 use Rattle.subblock.specs.Call.{SubBlock, runs, stretch, transOf, quantOf, count, price, Share, share, coded, levels, subBlockAnswer}

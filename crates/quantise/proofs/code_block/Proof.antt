@@ -15,10 +15,12 @@ use Rattle.refusals.proofs.First.{here, later, but, end}
 use Rattle.price.specs.Level.{scaled}
 use Rattle.price.specs.Costs.{Rows}
 use Rattle.price.proofs.Rates.{costs-in-range}
-use Rattle.quantise.specs.Block.{Quant, called, rowsOf, isSkipped, lambdaHere}
+use Rattle.rule.specs.Rows.{rowsOf}
+use Rattle.quantise.specs.Block.{Quant, called, isSkipped, lambdaHere}
 use Rattle.quantise.specs.Call.{sampleFault, levelFault, priceFault, distortionFault, largestHere, uncodedHere}
-use Rattle.quantise.specs.Code.{Held, pricesOf}
-use Rattle.quantise.proofs.Scaling.{scale-range}
+use Rattle.rule.specs.Prices.{pricesOf}
+use Rattle.quantise.specs.Code.{Held}
+use Rattle.rule.proofs.Scaling.{scale-range}
 use Rattle.quantise.proofs.Reaching.{lowest-reaches}
 use Rattle.quantise.proofs.Accepting.{each-small, all-few, all-fine, held-is, held-beyond}
 use Rattle.quantise.proofs.Answer.{refused-answer, skipped-here, largest-here, uncoded-here, uncoded-is, sample-here, level-here, price-here, distortion-here, past-five, skipped-answer, coded-answer}

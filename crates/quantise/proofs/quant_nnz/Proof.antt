@@ -14,7 +14,7 @@ use borrow.Author.Needs.{needs}
 use Rattle.refusals.proofs.First.{here, later, inside}
 use Rattle.quantise.specs.Block.{Quant, called}
 use Rattle.quantise.specs.Call.{quantFaults, sideFault, qpFault, lambdaFault, costFault, lengthFault, quantAnswer, quantBuffer}
-use Rattle.quantise.proofs.Scaling.{bit}
+use Rattle.rule.proofs.Scaling.{bit}
 use Rattle.quantise.proofs.Answer.{refused-answer, side-test, qp-high, qp-right, lambda-test, cost-test, length-low}
 use Rattle.quantise.proofs.Surplus.{surplus-untested, surplus-carried}
 use Rattle.quantise.proofs.quant_nnz.Statement.{statement}

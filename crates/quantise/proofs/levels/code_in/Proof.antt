@@ -4,8 +4,9 @@ use mathlib.Core.Path.{_≡_, sym, subst, _∙_}
 use Prim.Native.Nat.{ℕ, _*_, _%_, _^_}
 use native.Mathlib.Omega.{arith}
 use borrow.Author.Needs.{needs}
-use Rattle.quantise.specs.Code.{Scanned, Codable, CodedAs}
-use Rattle.quantise.proofs.Scaling.{bit}
+use Rattle.rule.specs.Places.{Scanned}
+use Rattle.quantise.specs.Code.{Codable, CodedAs}
+use Rattle.rule.proofs.Scaling.{bit}
 use Rattle.quantise.proofs.Coding.{area-range, area-is, scan-held, begins, level-small, coded-as}
 use Rattle.quantise.proofs.levels.code_in.Statement.{statement}
 use Rattle.quantise.proofs.levels.code_in.Tie as tie

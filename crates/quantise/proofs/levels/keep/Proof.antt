@@ -14,7 +14,7 @@ use Rattle.integers.specs.Sum.{at}
 use Rattle.integers.proofs.Fill.{Filled, filled-more}
 use Rattle.price.specs.Price.{nonzeros}
 use Rattle.quantise.specs.Code.{keptOf}
-use Rattle.quantise.proofs.Counting.{ones, one-more, none-more, ones-few, nonzeros-filled}
+use Rattle.price.proofs.Counting.{ones, one-more, none-more, ones-few, nonzeros-filled}
 use Rattle.quantise.proofs.Keeping.{kept-yes, kept-no}
 use Rattle.quantise.proofs.levels.keep.Statement.{statement}
 use Rattle.quantise.proofs.levels.keep.Tie as tie

@@ -14,7 +14,7 @@ use Rattle.integers.proofs.Sums.{nats}
 use Rattle.integers.proofs.Over.{over-next, over-end}
 use Rattle.price.specs.Level.{signed}
 use Rattle.quantise.proofs.Samples.{minus-fits, put-minus, put-plus}
-use Rattle.quantise.proofs.Counting.{ones, one-more, none-more, ones-few, nonzeros-over}
+use Rattle.price.proofs.Counting.{ones, one-more, none-more, ones-few, nonzeros-over}
 use Rattle.quantise.proofs.Signing.{Signing, signing-none, signing-more, signing-all}
 use Rattle.quantise.proofs.levels.put_signs.Statement.{statement}
 use Rattle.quantise.proofs.levels.put_signs.Tie as tie

@@ -1,0 +1,5 @@
+pub mod Scaling
+pub mod Squaring
+pub mod Pricing
+pub mod Offering
+pub mod Places

@@ -1,0 +1,378 @@
+-- The loop of the walk over magnitudes that are kept by rows: its totals are the walk's over the places passed, its magnitudes those
+-- walked, and no total passes 2^62. A place where nothing is kept has m = 0, and is passed; behind the last place where something
+-- is kept the walk may stop. Assumes nothing.
+use mathlib.Core.Path.{_≡_, refl, sym, ap, subst, _∙_}
+use mathlib.Core.Logic.{_⊎_, inl, inr, ⊎-elim, _≢_}
+use mathlib.Core.Bool.{Bool, true, false, cond, _&&_}
+use mathlib.Core.List.{List, [], _∷_, map}
+use Prim.Native.Nat.{ℕ, zero, suc, _+_, _-_, _*_, _≤_, _<_, _^_, max}
+use native.Mathlib.Omega.{arith}
+use native.Mathlib.Numerals.{add-one}
+use native.Mathlib.Nat.{mul-le-mul, mul-le-mul-left, zero-mul, eq-or-lt-of-le, not-suc-le-zero, le-of-suc-le-suc}
+use lib.Dec.{ltb, leb, eqb, leb·suc-suc}
+use lib.ListN.{length, getD, set, take, drop, length-set, length-map, length-drop}
+use lib.Seq.{getD-set-same, getD-set-other, getD-drop, drop-cons}
+use borrow.Author.Tests.{ltb-true, ltb-false, eqb-true, eqb-false, lt-ltb, le-ltb, le-leb, lt-leb}
+use Rattle.integers.proofs.Order.{below-or-not}
+use Rattle.integers.proofs.Lists.{map-at}
+use Rattle.tables.specs.Scan.{scan, scanAt}
+use Rattle.tables.proofs.OneToOne.{scan-inside, scan-apart}
+use Rattle.price.specs.Level.{magnitude, distortion}
+use Rattle.price.specs.Rule.{Rule, Allowed, isZero}
+use Rattle.price.specs.Price.{uncoded, nonzeros}
+use Rattle.price.specs.Walk.{walked, cutAt}
+use Rattle.price.specs.OnePass.{Totals, step, walk}
+use Rattle.price.proofs.Choice.{length-walked, walked-cheapest}
+use Rattle.price.proofs.OnePass.{one-pass-level}
+use Rattle.price.proofs.Bounds.{walk-within}
+use Rattle.price.proofs.Tail.{Quiet, quiet-walk, walk-parts}
+use Rattle.rule.specs.declared.scale.Scale.{Scale}
+use Rattle.rule.specs.declared.prices.Prices.{Prices}
+use Rattle.walk.specs.declared.Walk.{Walk}
+use Rattle.walk.specs.declared.Walked.{Walked}
+use Rattle.rule.specs.Prices.{ruleBy, rateBy}
+use Rattle.rule.specs.Places.{keptAt, keptFrom, keptPlaces, Scanned, Standing, Cleared}
+use Rattle.walk.specs.Walking.{totalsOf, passed, Ready, Begins, WalkedOver, CutBehind, CutOver}
+use Rattle.price.proofs.Counting.{ones, one-more, none-more}
+use Rattle.walk.proofs.Weighing.{quiet}
+use Rattle.rule.proofs.Places.{inside, apart, places-count, place-at, nothing-there, kept-in-all, kept-next, kept-inside, none-kept}
+
+pub some-kept : (a : ℕ) → (a ≡ 0 → ⊥) → 1 ≤ a
+some-kept zero h = absurd (h refl)
+some-kept (suc a) h = omega arith
+
+-- one place more
+walk-next : (r : Rule) (m : ℕ) (w : Totals) (ps : List ℕ) (i : ℕ) → i < length ps
+    → walk r m w (take (suc i) ps) ≡ step r (m + i) (walk r m w (take i ps)) (getD ps i 0)
+unfolding walk
+walk-next r m w [] i h = absurd (not-suc-le-zero h)
+walk-next r m w (p ∷ ps) zero h = ap (λ (k : ℕ). step r k w p) (omega arith)
+walk-next r m w (p ∷ ps) (suc i) h =
+    walk-next r (suc m) (step r m w p) ps i (le-of-suc-le-suc h)
+    ∙ ap (λ (k : ℕ). step r k (walk r (suc m) (step r m w p) (take i ps)) (getD ps i 0)) (omega arith)
+
+pub allowed-below : (m a : ℕ) → Allowed m a → a ≤ m
+allowed-below m a (inl e) = omega arith
+allowed-below m a (inr (inl e)) = omega arith
+allowed-below m a (inr (inr e)) = omega arith
+
+uncoded-first : (r : Rule) (ps : List ℕ) (i : ℕ) → i < length ps → r .dist (getD ps i 0) 0 ≤ uncoded r (drop i ps)
+unfolding uncoded
+uncoded-first r ps i h = rw (drop-cons ps i 0 h) (omega arith)
+
+module _ (p : Prices) (g : Scale) (w₀ : Walk) (side : ℕ) (kept held : List ℕ) (sc : Scanned side held) (b : Begins p g w₀ side kept) where
+  abbrev r : Rule
+  r = ruleBy p g
+
+  abbrev ps : List ℕ
+  ps = keptPlaces g side kept
+
+  abbrev ls : List ℕ
+  ls = walked r (isZero (w₀ .prev)) ps
+
+  abbrev total : ℕ → Totals
+  total n = walk r 0 (totalsOf w₀) (take n ps)
+
+  next : (n : ℕ) → n < side * side → total (n + 1) ≡ step r n (total n) (keptAt side kept n * g .q)
+  next n h =
+      ap (λ (k : ℕ). total k) (add-one n)
+      ∙ walk-next r 0 (totalsOf w₀) ps n (omega (arith, places-count side held sc g kept))
+      ∙ ap (λ (k : ℕ). step r k (total n) (getD ps n 0)) (omega arith)
+      ∙ ap (step r n (total n)) (place-at side held sc g kept n h)
+
+  free : (z : Bool) → r .rate z 0 ≤ 2 ^ 48
+  unfolding ruleBy rateBy
+  free true = b .weighable .modest .zeros
+  free false = b .weighable .modest .zero
+
+  more-small : r .more ≤ 2 ^ 48
+  unfolding ruleBy
+  more-small = b .weighable .modest .more
+
+  pub bounded : (n : ℕ) → n ≤ side * side → (total n) .base ≤ 2 ^ 62
+  bounded n h =
+      let x = walk-within r (2 ^ 48) free 0 (totalsOf w₀) ps n (b .left) .1 in
+      let y : n * (2 ^ 48 + r .more) ≤ 4096 * (2 ^ 48 + 2 ^ 48) = mul-le-mul (let k : n ≤ 4096 = omega (arith, sc .few) in k) (let k : 2 ^ 48 + r .more ≤ 2 ^ 48 + 2 ^ 48 = omega (arith, more-small) in k) in
+      omega (arith, b .base)
+
+  pub product-small : (n : ℕ) → n < side * side → keptAt side kept n * g .q ≤ 2 ^ 49
+  product-small n h =
+      omega (arith, b .weighable .fine (scanAt side side n) .near, mul-le-mul-left (keptAt side kept n * g .q) (b .weighable .sound .some-error))
+
+  by-dist : (L : ℕ) → r .dist L 0 ≡ distortion (g .shift) (g .error) L 0
+  unfolding ruleBy
+  by-dist L = refl
+
+  enough : (n : ℕ) → n < side * side → distortion (g .shift) (g .error) (keptAt side kept n * g .q) 0 ≤ (total n) .base
+  enough n h =
+      let x = walk-within r (2 ^ 48) free 0 (totalsOf w₀) ps n (b .left) .0 in
+      let y = uncoded-first r ps n (omega (arith, places-count side held sc g kept)) in
+      omega (arith, by-dist (getD ps n 0), ap (λ (L : ℕ). distortion (g .shift) (g .error) L 0) (place-at side held sc g kept n h))
+
+  level-at : (n : ℕ) → n < side * side → (total (n + 1)) .prev ≡ getD ls n 0
+  level-at n h = ap (λ (k : ℕ). (total k) .prev) (add-one n) ∙ one-pass-level r 0 (totalsOf w₀) ps n (omega (arith, places-count side held sc g kept))
+
+  level-below : (n : ℕ) → n < side * side → getD ls n 0 ≤ magnitude (g .shift) (keptAt side kept n * g .q)
+  unfolding ruleBy
+  level-below n h =
+      let a = allowed-below _ _ (walked-cheapest r (isZero (w₀ .prev)) ps n (omega (arith, places-count side held sc g kept)) .allowed) in
+      omega (arith, ap (magnitude (g .shift)) (place-at side held sc g kept n h))
+
+  level-small : (n : ℕ) → n < side * side → getD ls n 0 ≤ 32767
+  level-small n h = omega (arith, level-below n h, b .weighable .fine (scanAt side side n) .level)
+
+  -- the loop before place n, with `left` places to step at
+  pub record Walking (levels : List ℕ) (w : Walk) (end left n : ℕ) : Type 0 where
+    pub place : n ≤ side * side
+    pub room : length levels ≡ side * side
+    pub same : totalsOf w ≡ total n
+    pub done : (k : ℕ) → k < n → getD levels (scanAt side side k) 0 ≡ getD ls k 0
+    pub ahead : (k : ℕ) → n ≤ k → k < side * side → getD levels (scanAt side side k) 0 ≡ 0
+    pub ended : end ≤ n
+    pub tail : (k : ℕ) → end ≤ k → k < n → getD ls k 0 ≡ 0
+    pub rest : left ≡ keptFrom side kept n
+
+  pub begun : (levels : List ℕ) (left : ℕ) → length levels ≡ side * side → Cleared levels → left ≡ nonzeros kept → Walking levels w₀ 0 left 0
+  unfolding walk
+  begun levels left e z q =
+      record {
+        place = omega arith;
+        room = e;
+        same = refl;
+        done = λ k h. absurd (not-suc-le-zero h);
+        ahead = λ k l h. z (scanAt side side k);
+        ended = omega arith;
+        tail = λ k l h. absurd (not-suc-le-zero h);
+        rest = q ∙ kept-in-all side kept held sc (b .weighable .room);
+      }
+
+  -- while a place is left to step at, n lies inside side held sc the block
+  pub going : (levels : List ℕ) (w : Walk) (end left n : ℕ) → Walking levels w end left n → 0 < left → n < side * side
+  going levels w end left n i h = kept-inside side kept held sc n (omega (arith, i .rest))
+
+  module _ (levels : List ℕ) (w : Walk) (end left n : ℕ) (i : Walking levels w end left n) (h : n < side * side) where
+    pub base-small : w .base ≤ 2 ^ 62
+    base-small = omega (arith, ap (λ (t : Totals). t .base) (i .same), bounded n (i .place))
+
+    pub ready : 1 ≤ keptAt side kept n → Ready p g w n (keptAt side kept n * g .q)
+    ready o =
+        record {
+          modest = b .weighable .modest;
+          sound = b .weighable .sound;
+          fine = b .weighable .fine (scanAt side side n);
+          some = b .weighable .some (scanAt side side n) o;
+          left = omega (arith, ap (λ (t : Totals). t .base) (i .same), enough n h);
+          base = base-small;
+          place = omega (arith, sc .few);
+        }
+
+    below-next : (P : ℕ → Type 0) → ((k : ℕ) → k < n → P k) → P n → (k : ℕ) → k < n + 1 → P k
+    below-next P old new k l =
+        ⊎-elim (λ (e : k ≡ n). subst P (sym e) new) (λ (q : k < n). old k q)
+        (eq-or-lt-of-le (le-of-suc-le-suc (subst (λ (m : ℕ). k < m) (add-one n) l)))
+
+    rest-next : left ≡ ones (keptAt side kept n) + keptFrom side kept (n + 1)
+    rest-next = i .rest ∙ kept-next side kept held sc n h
+
+    pub passes : (v : Walk) → keptAt side kept n ≡ 0 → totalsOf v ≡ passed p (totalsOf w) → Walking levels v end left (n + 1)
+    passes v e q =
+        let s : totalsOf v ≡ total (n + 1) =
+        q ∙ ap (passed p) (i .same) ∙ sym (next n h ∙ quiet p g n (total n) (keptAt side kept n * g .q) (nothing-there g (b .weighable .sound) (keptAt side kept n) e) (enough n h)) in
+        let l : getD ls n 0 ≡ 0 = sym (level-at n h) ∙ sym (ap (λ (t : Totals). t .prev) s) ∙ ap (λ (t : Totals). t .prev) q in
+        record {
+          place = omega arith;
+          room = i .room;
+          same = s;
+          done =
+              below-next (λ (k : ℕ). getD levels (scanAt side side k) 0 ≡ getD ls k 0) (i .done)
+              (i .ahead n (omega arith) h ∙ sym l);
+          ahead = λ k m. i .ahead k (omega arith);
+          ended = omega (arith, i .ended);
+          tail =
+              λ k m lt. below-next (λ (k : ℕ). end ≤ k → getD ls k 0 ≡ 0) (λ j lt le. i .tail j le lt) (λ le. l) k lt m;
+          rest = omega (arith, rest-next, none-more (keptAt side kept n) e);
+        }
+
+    module _ (v : Walk) (q : totalsOf v ≡ step r n (totalsOf w) (keptAt side kept n * g .q)) where
+      stepped : totalsOf v ≡ total (n + 1)
+      stepped = q ∙ ap (λ (t : Totals). step r n t (keptAt side kept n * g .q)) (i .same) ∙ sym (next n h)
+
+      taken : v .prev ≡ getD ls n 0
+      taken = ap (λ (t : Totals). t .prev) stepped ∙ level-at n h
+
+      pub taken-small : v .prev ≤ 32767
+      taken-small = omega (arith, taken, level-small n h)
+
+      pub steps : (e : ℕ) → e ≡ cond (isZero (v .prev)) end (n + 1) → (keptAt side kept n ≡ 0 → ⊥)
+          → Walking (set levels (scanAt side side n) (v .prev)) v e (left - 1) (n + 1)
+      steps e f some =
+          record {
+            place = omega arith;
+            room = length-set levels (scanAt side side n) (v .prev) ∙ i .room;
+            same = stepped;
+            done =
+                below-next (λ (k : ℕ). getD (set levels (scanAt side side n) (v .prev)) (scanAt side side k) 0 ≡ getD ls k 0)
+                (λ k lt. other k (omega arith) (λ e. let z : ⊥ = omega arith in z) ∙ i .done k lt)
+                (getD-set-same levels (scanAt side side n) (v .prev) 0 (omega (arith, inside side held sc n h, i .room)) ∙ taken);
+            ahead = λ k m lt. other k lt (λ e. let z : ⊥ = omega arith in z) ∙ i .ahead k (omega arith) lt;
+            ended = ended-by (v .prev) f;
+            tail = tail-by (v .prev) f taken;
+            rest = omega (arith, rest-next, one-more (keptAt side kept n) some);
+          }
+        where
+          ended-by : (a : ℕ) → e ≡ cond (isZero a) end (n + 1) → e ≤ n + 1
+          ended-by zero f = omega (arith, i .ended)
+          ended-by (suc a) f = omega arith
+
+          tail-by : (a : ℕ) → e ≡ cond (isZero a) end (n + 1) → a ≡ getD ls n 0 → (k : ℕ) → e ≤ k → k < n + 1 → getD ls k 0 ≡ 0
+          tail-by zero f t k m lt =
+              below-next (λ (k : ℕ). end ≤ k → getD ls k 0 ≡ 0) (λ j lt le. i .tail j le lt) (λ le. sym t) k lt (omega arith)
+          tail-by (suc a) f t k m lt = absurd (let z : ⊥ = omega arith in z)
+
+          other : (k : ℕ) → k < side * side → k ≢ n
+              → getD (set levels (scanAt side side n) (v .prev)) (scanAt side side k) 0 ≡ getD levels (scanAt side side k) 0
+          other k lt ne = getD-set-other levels (scanAt side side n) (scanAt side side k) (v .prev) 0 (λ e. ne (apart side held sc k n lt h e))
+
+  behind-none : (k : ℕ) → side * side ≤ k → getD ls k 0 ≡ 0
+  behind-none k h = lib.ListN.List·getD-eq-default ls 0 (omega (arith, length-walked r (isZero (w₀ .prev)) ps, places-count side held sc g kept))
+
+  -- no place is left to step at: nothing is kept from n on
+  module _ (levels : List ℕ) (w : Walk) (end left n : ℕ) (i : Walking levels w end left n) (none : left ≡ 0) where
+    none-there : (k : ℕ) → n ≤ k → k < side * side → keptAt side kept k ≡ 0
+    none-there = none-kept side kept held sc n (sym (i .rest) ∙ none)
+
+    none-walked : (k : ℕ) → n ≤ k → getD ls k 0 ≡ 0
+    none-walked k m =
+        ⊎-elim (λ (lt : k < side * side). omega (arith, level-below k lt, nothing-there g (b .weighable .sound) (keptAt side kept k) (none-there k m lt)))
+        (λ (le : side * side ≤ k). behind-none k le)
+        (below-or-not k (side * side))
+
+    quiet-behind : Quiet r (drop n ps)
+    unfolding ruleBy
+    quiet-behind k h =
+        let lt : n + k < side * side = omega (arith, length-drop n ps, places-count side held sc g kept) in
+        ap (r .top) (getD-drop n ps k 0 ∙ place-at side held sc g kept (n + k) lt) ∙ nothing-there g (b .weighable .sound) (keptAt side kept (n + k)) (none-there (n + k) (omega arith) lt)
+
+    stopped : (walk r 0 (totalsOf w₀) ps .best ≡ total n .best) × (walk r 0 (totalsOf w₀) ps .cut ≡ total n .cut)
+    stopped = rw (← walk-parts r 0 (totalsOf w₀) ps n) (quiet-walk r (0 + n) (total n) (drop n ps) quiet-behind)
+
+    pub walked-over : WalkedOver p g w₀ side kept levels (record { walk = w; end = end })
+    walked-over =
+        record {
+          best = ap (λ (t : Totals). t .best) (i .same) ∙ sym (stopped .0);
+          cut = ap (λ (t : Totals). t .cut) (i .same) ∙ sym (stopped .1);
+          room = i .room;
+          levels =
+              λ k l. ⊎-elim (λ (q : k < n). i .done k q) (λ (q : n ≤ k). i .ahead k q l ∙ sym (none-walked k q)) (below-or-not k n);
+          within = omega (arith, i .ended, i .place);
+          tail = λ k l. ⊎-elim (λ (q : k < n). i .tail k l q) (λ (q : n ≤ k). none-walked k q) (below-or-not k n);
+        }
+
+-- ---- the cut
+cut-at : (c : ℕ) (ls : List ℕ) (k : ℕ) → getD (cutAt c ls) k 0 ≡ cond (ltb k c) (getD ls k 0) 0
+unfolding cutAt
+cut-at c [] k = none (ltb k c)
+  where
+    none : (t : Bool) → _≡_ {A = ℕ} 0 (cond t 0 0)
+    none true = refl
+    none false = refl
+cut-at zero (a ∷ ls) zero = refl
+cut-at zero (a ∷ ls) (suc k) = cut-at zero ls k ∙ rw (le-ltb k 0 (omega arith), le-ltb (suc k) 0 (omega arith))
+cut-at (suc c) (a ∷ ls) zero = rw (lt-ltb 0 (suc c) (omega arith))
+cut-at (suc c) (a ∷ ls) (suc k) = cut-at c ls k ∙ ap (λ (t : Bool). cond t (getD ls k 0) 0) (sym (leb·suc-suc (suc k) c))
+
+cut-levels : (side cut end : ℕ) (ls before after : List ℕ) → Standing side before ls → ((k : ℕ) → end ≤ k → getD ls k 0 ≡ 0)
+    → CutBehind side cut end before after → Standing side after (cutAt cut ls)
+cut-levels side cut end ls before after s t c k h =
+    c .levels k h ∙ go ∙ sym (cut-at cut ls k)
+  where
+    old : getD before (scanAt side side k) 0 ≡ getD ls k 0
+    old = s k h
+
+    go : cond (leb cut k && ltb k (max cut end)) 0 (getD before (scanAt side side k) 0) ≡ cond (ltb k cut) (getD ls k 0) 0
+    go =
+        ⊎-elim
+        (λ (q : k < cut). rw (lt-leb cut k q, lt-ltb k cut q) old)
+        (λ (q : cut ≤ k).
+        ⊎-elim (λ (m : k < max cut end). rw (le-leb cut k q, lt-ltb k (max cut end) m, le-ltb k cut q))
+        (λ (m : max cut end ≤ k). rw (le-leb cut k q, le-ltb k (max cut end) m, le-ltb k cut q) (old ∙ t k (omega arith)))
+        (below-or-not k (max cut end)))
+        (below-or-not k cut)
+
+pub cut-over : (p : Prices) (g : Scale) (w₀ : Walk) (side : ℕ) (kept before after : List ℕ) (whole : Walked)
+    → WalkedOver p g w₀ side kept before whole → CutBehind side (whole .walk .cut) (whole .end) before after
+    → CutOver p g w₀ side kept after (whole .walk .best)
+cut-over p g w₀ side kept before after whole o c =
+    let ls = walked (ruleBy p g) (isZero (w₀ .prev)) (keptPlaces g side kept) in
+    record {
+      price = o .best;
+      room = c .room;
+      levels =
+          subst (λ (k : ℕ). Standing side after (cutAt k ls)) (o .cut)
+          (cut-levels side (whole .walk .cut) (whole .end) ls before after (o .levels) (o .tail) c);
+    }
+
+-- the loop that cuts: at n it has put 0 at the places from the cut to n
+module _ (side cut : ℕ) (held : List ℕ) (sc : Scanned side held) (before : List ℕ) where
+  pub cut-none : length before ≡ side * side → CutBehind side cut cut before before
+  cut-none e = record { room = e; levels = λ k h. sym (none k (ltb k cut) refl) }
+    where
+      none : (k : ℕ) (t : Bool) → ltb k cut ≡ t
+          → cond (leb cut k && ltb k (max cut cut)) 0 (getD before (scanAt side side k) 0) ≡ getD before (scanAt side side k) 0
+      none k true e = let q = ltb-true k cut e in rw (lt-leb cut k q)
+      none k false e =
+          let q = ltb-false k cut e in
+          rw (le-leb cut k q, le-ltb k (max cut cut) (let m : max cut cut ≤ k = omega arith in m))
+
+  pub cut-more : (n : ℕ) (levels : List ℕ) → cut ≤ n → n < side * side → CutBehind side cut n before levels
+      → CutBehind side cut (n + 1) before (set levels (scanAt side side n) 0)
+  cut-more n levels le lt c =
+      record { room = length-set levels (scanAt side side n) 0 ∙ c .room; levels = λ k h. ⊎-elim (here k h) (there k h) (same-or-not k n) }
+    where
+      same-or-not : (k n : ℕ) → (k ≡ n) ⊎ (k ≢ n)
+      same-or-not k n = go (eqb k n) refl
+        where
+          go : (t : Bool) → eqb k n ≡ t → (k ≡ n) ⊎ (k ≢ n)
+          go true e = inl (eqb-true k n e)
+          go false e = inr (eqb-false k n e)
+
+      here : (k : ℕ) → k < side * side → k ≡ n
+          → getD (set levels (scanAt side side n) 0) (scanAt side side k) 0
+          ≡ cond (leb cut k && ltb k (max cut (n + 1))) 0 (getD before (scanAt side side k) 0)
+      here k h e =
+          let l : cut ≤ k = omega arith in
+          let u : k < max cut (n + 1) = omega arith in
+          let i = scan-inside side side (sc .some) (sc .some) n (omega (arith, sc .full)) in
+          ap (λ (m : ℕ). getD (set levels (scanAt side side n) 0) (scanAt side side m) 0) e
+          ∙ getD-set-same levels (scanAt side side n) 0 0 (omega (arith, c .room))
+          ∙ rw (le-leb cut k l, lt-ltb k (max cut (n + 1)) u)
+
+      same-test : (k : ℕ) → k ≢ n → ltb k (max cut n) ≡ ltb k (max cut (n + 1))
+      same-test k ne =
+          ⊎-elim
+          (λ (q : k < max cut n). lt-ltb k (max cut n) q ∙ sym (lt-ltb k (max cut (n + 1)) (let m : k < max cut (n + 1) = omega arith in m)))
+          (λ (q : max cut n ≤ k). le-ltb k (max cut n) q ∙ sym (le-ltb k (max cut (n + 1)) (over-it q)))
+          (below-or-not k (max cut n))
+        where
+          over-it : max cut n ≤ k → max cut (n + 1) ≤ k
+          over-it q =
+              ⊎-elim (λ (e : n ≡ k). absurd (ne (sym e))) (λ (l : n < k). omega arith)
+              (eq-or-lt-of-le (let m : n ≤ k = omega arith in m))
+
+      there : (k : ℕ) → k < side * side → k ≢ n
+          → getD (set levels (scanAt side side n) 0) (scanAt side side k) 0
+          ≡ cond (leb cut k && ltb k (max cut (n + 1))) 0 (getD before (scanAt side side k) 0)
+      there k h ne =
+          getD-set-other levels (scanAt side side n) (scanAt side side k) 0 0
+          (λ e. ne (scan-apart side side (sc .some) (sc .some) k n (omega (arith, sc .full)) (omega (arith, sc .full)) e))
+          ∙ c .levels k h
+          ∙ ap (λ (t : Bool). cond (leb cut k && t) 0 (getD before (scanAt side side k) 0)) (same-test k ne)
+
+  pub cut-done : (n end : ℕ) (levels : List ℕ) → n ≡ max cut end → cut ≤ n → CutBehind side cut n before levels
+      → CutBehind side cut end before levels
+  cut-done n end levels e le c =
+      let q : max cut n ≡ max cut end = omega arith in
+      record {
+        room = c .room;
+        levels = λ k h. c .levels k h ∙ ap (λ (m : ℕ). cond (leb cut k && ltb k m) 0 (getD before (scanAt side side k) 0)) q;
+      }

@@ -1,0 +1,81 @@
+-- `walk::cut_behind` meets its contract: the places from the cut on are met once each.
+-- Assumes nothing.
+use mathlib.Core.Path.{_≡_, ap, _∙_}
+use Prim.Native.Nat.{ℕ, _-_, _≤_, max}
+use native.Mathlib.Omega.{arith}
+use lib.ListN.{length, set}
+use borrow.Author.Needs.{needs}
+use Rattle.tables.specs.Scan.{scanAt}
+use Rattle.walk.specs.Walking.{CutBehind}
+use Rattle.walk.proofs.Steps.{cut-none, cut-more, cut-done}
+use Rattle.walk.proofs.cut_behind.Statement.{statement}
+use Rattle.walk.proofs.cut_behind.Tie as tie
+
+abbrev Inv-loop : tie.InvT-loop
+Inv-loop levels₀ scan side cut end n₀ levels n =
+    (cut ≤ n) × (n ≤ max cut end) × CutBehind side cut n levels₀ levels
+
+abbrev μ-loop : tie.MeasureT-loop
+μ-loop levels₀ scan side cut end n₀ levels n = end - n
+
+loop-holds : tie.Need-loop-holds Inv-loop μ-loop
+loop-holds c =
+    let s = c .before .before in
+    (omega arith, omega arith, cut-none (s .args .side) (s .args .cut) (s .args .scan .now) (s .pre .0) (s .args .levels .now) (s .pre .1))
+
+scan-place-requires : tie.Need-scan-place-requires Inv-loop μ-loop
+scan-place-requires c κs = search needs
+
+block-place-requires : tie.Need-block-place-requires Inv-loop μ-loop
+block-place-requires c κs =
+    let sc = c .before .before .before .before .before .before .pre .0 in
+    (sc .is, omega (arith, c .scan-place .ensures, ap length (sc .is), sc .full, c .before .before .before .before .before .before .pre .2), sc .some, sc .some)
+
+put-magnitude-requires : tie.Need-put-magnitude-requires Inv-loop μ-loop
+put-magnitude-requires c κs = omega (arith, c .block-place .ensures .1, c .before .before .before .before .loop .inv .2 .room)
+
+add-n : tie.Need-add-n Inv-loop μ-loop
+add-n c = search needs
+
+loop-less : tie.Need-loop-less Inv-loop μ-loop
+loop-less c = search needs
+
+loop-again : tie.Need-loop-again Inv-loop μ-loop
+loop-again c =
+    let s = c .before .before .before .before .before .before .before .before .before .before in
+    let l = c .before .before .before .before .before .before .before .loop in
+    let lt = c .before .before .before .before .before .before .loop-test .taken in
+    let put : _ ≡ set (l .levels) (scanAt (s .args .side) (s .args .side) (l .n)) 0 =
+    c .before .before .put-magnitude .ensures
+    ∙ ap (λ (k : ℕ). set (l .levels) k 0)
+    (c .before .before .before .block-place .ensures .0 ∙ ap (scanAt (s .args .side) (s .args .side)) (c .before .before .before .before .scan-place .ensures)) in (
+      omega arith,
+      omega arith,
+      rw put (cut-more (s .args .side) (s .args .cut) (s .args .scan .now) (s .pre .0) (s .args .levels .now) (l .n) (l .levels) (l .inv .0) (omega (arith, s .pre .2)) (l .inv .2)),
+    )
+
+same-length : tie.Need-same-length Inv-loop μ-loop
+same-length c = search needs
+
+returns : tie.Need-returns Inv-loop μ-loop
+returns c =
+    let s = c .before .before .before .before in
+    let l = c .before .loop in
+    cut-done (s .args .side) (s .args .cut) (s .args .scan .now) (s .pre .0) (s .args .levels .now) (l .n) (s .args .end) (l .levels)
+    (omega arith) (l .inv .0) (l .inv .2)
+
+pub cut-behind-spec : {M : Type 1} → statement M
+cut-behind-spec =
+    tie.close
+    (tie.spec
+    Inv-loop
+    μ-loop
+    loop-holds
+    scan-place-requires
+    block-place-requires
+    put-magnitude-requires
+    add-n
+    loop-less
+    loop-again
+    same-length
+    returns)
