@@ -15,7 +15,8 @@ use Rattle.price.specs.Price.{nonzeros, price}
 use Rattle.price.specs.Walk.{walked, cutAt, Cut, cutOf, written}
 use Rattle.price.proofs.Choice.{CheapestAt, length-walked, walked-cheapest, cheapest-walked}
 use Rattle.price.proofs.Price.{length-cut}
-use Rattle.price.proofs.Cut.{Before, less, tied, no-dearer, dearer-if-earlier, best-unique, cut-best}
+use Rattle.price.proofs.Best.{Wins, best-unique}
+use Rattle.price.proofs.Cut.{smaller-first, dearer-if-earlier, cut-best}
 
 cut-level : (c : ℕ) (ls : List ℕ) (k : ℕ) → (getD (cutAt c ls) k 0 ≡ 0) ⊎ (getD (cutAt c ls) k 0 ≡ getD ls k 0)
 unfolding cutAt
@@ -44,7 +45,7 @@ module _ (r : Rule) (ps : List ℕ) where
   -- the block written is the walk, cut where a cut may be made
   pub written-is-the-walk-cut : (written r ps ≡ cutAt (cutOf r ps) (walked r false ps)) × Cut (walked r false ps) (cutOf r ps)
   unfolding written
-  written-is-the-walk-cut = (refl, cut-best r ps .made)
+  written-is-the-walk-cut = (refl, cut-best r ps .member)
 
   pub written-length : length (written r ps) ≡ length ps
   unfolding written
@@ -62,23 +63,25 @@ module _ (r : Rule) (ps : List ℕ) where
   -- the block written is no dearer than the empty block or the walk cut behind any nonzero level
   pub written-no-dearer : (k : ℕ) → Cut (walked r false ps) k → price r (written r ps) ps ≤ price r (cutAt k (walked r false ps)) ps
   unfolding written
-  written-no-dearer k h = no-dearer (cut-best r ps .before k h)
+  written-no-dearer k h = cut-best r ps .wins k h .no-dearer
 
   -- what may be cut before it is dearer: at equal price the empty block wins, then the earliest cut
   pub empty-wins-then-earliest : (k : ℕ) → Cut (walked r false ps) k → k < cutOf r ps
       → price r (written r ps) ps < price r (cutAt k (walked r false ps)) ps
   unfolding written
-  empty-wins-then-earliest k h l = dearer-if-earlier (cut-best r ps .before k h) l
+  empty-wins-then-earliest k h l = dearer-if-earlier (cut-best r ps .wins k h) l
 
   -- and no other cut is such
   pub cut-unique : (c : ℕ)
       → (let ls = walked r false ps in let f : ℕ → ℕ = λ k. price r (cutAt k ls) ps in
       Cut ls c → ((k : ℕ) → Cut ls k → f c ≤ f k) → ((k : ℕ) → Cut ls k → k < c → f c < f k) → c ≡ cutOf r ps)
-  cut-unique c made low first = best-unique (record { made = made; before = λ k h. go k h (ltb k c) refl }) (cut-best r ps)
+  cut-unique c made low first =
+      best-unique f smaller-first (record { member = made; wins = λ k h. record { no-dearer = low k h; no-later = go k h (ltb k c) refl } })
+      (cut-best r ps)
     where
       f : ℕ → ℕ
       f k = price r (cutAt k (walked r false ps)) ps
 
-      go : (k : ℕ) → Cut (walked r false ps) k → (t : Bool) → ltb k c ≡ t → Before f c k
-      go k h true e = less (first k h (ltb-true k c e))
-      go k h false e = tied (low k h) (ltb-false k c e)
+      go : (k : ℕ) → Cut (walked r false ps) k → (t : Bool) → ltb k c ≡ t → f k ≡ f c → c ≤ k
+      go k h true e q = absurd (omega (arith, first k h (ltb-true k c e)))
+      go k h false e q = ltb-false k c e
