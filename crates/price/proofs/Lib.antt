@@ -9,5 +9,7 @@ pub mod OnePass
 pub mod Promises
 pub mod Bounds
 pub mod Tail
+pub mod Dictionary
+pub mod Cheapest
 pub mod Tests
 pub mod Counting
