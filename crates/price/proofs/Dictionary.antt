@@ -3,11 +3,13 @@
 -- Assumes nothing.
 use mathlib.Core.Path.{_≡_, refl, sym, ap, subst, _∙_}
 use mathlib.Core.Logic.{_⊎_, inl, inr, ⊎-elim}
+use mathlib.Core.Bool.{Bool, true, false}
 use mathlib.Core.List.{List, [], _∷_, _++_, map}
 use Prim.Native.Nat.{ℕ, zero, suc, _≤_, _<_}
 use native.Mathlib.Omega.{arith}
 use lib.Dec.{ltb}
 use lib.ListN.{length, getD}
+use borrow.Author.Tests.{ltb-true, ltb-false}
 use Rattle.price.specs.Rule.{Rule, Allowed}
 use Rattle.price.specs.Cheapest.{allowed, fronted, blocks, emptyBlock}
 use Rattle.price.proofs.Best.{Order, In, Ordered}
@@ -38,6 +40,13 @@ before-no-two (a ∷ k) (b ∷ l) (same e h) (same q g) = cc (before-no-two k l 
 
 pub dictionary : Order Before
 dictionary = record { itself = before-itself; onward = before-onward; no-two = before-no-two }
+
+pub before-led : (a b : ℕ) {k l : List ℕ} → a ≤ b → Before k l → Before (a ∷ k) (b ∷ l)
+before-led a b {k} {l} h g = go (ltb a b) refl
+  where
+    go : (t : Bool) → ltb a b ≡ t → Before (a ∷ k) (b ∷ l)
+    go true e = less (ltb-true a b e)
+    go false e = same {a = a} {b = b} (omega (arith, ltb-false a b e)) g
 
 -- a magnitude of A in front of a block of K
 abbrev pub Led : (ℕ → Type 0) → (List ℕ → Type 0) → List ℕ → Type 0
@@ -113,7 +122,7 @@ allowed-in (suc (suc n)) a (inr (inl e)) = inr (inr (omega arith, omega arith))
 allowed-in (suc (suc n)) a (inr (inr (inl e))) = inr (inl e)
 allowed-in (suc (suc n)) a (inr (inr (inr s))) = absurd s
 
-allowed-ordered : (m : ℕ) → Ordered _<_ (allowed m)
+pub allowed-ordered : (m : ℕ) → Ordered _<_ (allowed m)
 allowed-ordered zero = (λ b s. absurd s, tt)
 allowed-ordered (suc zero) = (λ b s. ⊎-elim (λ e. omega arith) (λ e. absurd e) s, (λ b s. absurd s, tt))
 allowed-ordered (suc (suc n)) =

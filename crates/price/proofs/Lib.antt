@@ -11,5 +11,6 @@ pub mod Bounds
 pub mod Tail
 pub mod Dictionary
 pub mod Cheapest
+pub mod Search
 pub mod Tests
 pub mod Counting
