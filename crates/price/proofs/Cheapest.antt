@@ -1,18 +1,19 @@
 -- What the cheapest block of all is: its magnitudes are allowed, no block whose magnitudes are allowed is cheaper, and of those
 -- as cheap it is the first in dictionary order. These leave one block only. It is never dearer than the walk's.
 -- Assumes nothing.
-use mathlib.Core.Path.{_≡_, refl}
-use mathlib.Core.Logic.{_⊎_, inl, inr, ⊎-elim}
-use mathlib.Core.List.{List, [], _∷_}
+use mathlib.Core.Path.{_≡_}
+use mathlib.Core.Logic.{inl, inr}
+use mathlib.Core.List.{List, _∷_}
 use Prim.Native.Nat.{ℕ, _≤_, _<_}
 use lib.ListN.{length, getD}
 use Rattle.price.specs.Rule.{Rule, Allowed}
 use Rattle.price.specs.Price.{price}
 use Rattle.price.specs.Walk.{written}
 use Rattle.price.specs.Cheapest.{blocks, emptyBlock, cheapest}
-use Rattle.price.proofs.Best.{Wins, Best, In, best-unique, best-of-same, first-least-best}
-use Rattle.price.proofs.Dictionary.{Before, dictionary, Block, block-length, block-allowed, allowed-block}
-use Rattle.price.proofs.Dictionary.{empty-block, empty-first, blocks-in, in-blocks, blocks-ordered}
+use Rattle.price.proofs.Best.{Best, In, best-unique, best-of-same, first-least-best}
+use Rattle.price.proofs.Dictionary.{Before, dictionary}
+use Rattle.price.proofs.Blocks.{Block, block-length, block-allowed, allowed-block, empty-block, empty-first}
+use Rattle.price.proofs.Blocks.{blocks-in, in-blocks, blocks-ordered}
 use Rattle.price.proofs.Promises.{written-length, written-zero-or-m-or-m-1}
 
 module _ (r : Rule) (ps : List ℕ) where

@@ -10,7 +10,9 @@ pub mod Promises
 pub mod Bounds
 pub mod Tail
 pub mod Dictionary
+pub mod Blocks
 pub mod Cheapest
+pub mod Finds
 pub mod Search
 pub mod Tests
 pub mod Counting

@@ -15,7 +15,7 @@ use Rattle.price.specs.Price.{nonzeros, price}
 use Rattle.price.specs.Walk.{walked, cutAt, Cut, cutOf, written}
 use Rattle.price.proofs.Choice.{CheapestAt, length-walked, walked-cheapest, cheapest-walked}
 use Rattle.price.proofs.Price.{length-cut}
-use Rattle.price.proofs.Best.{Wins, best-unique}
+use Rattle.price.proofs.Best.{best-unique}
 use Rattle.price.proofs.Cut.{smaller-first, dearer-if-earlier, cut-best}
 
 cut-level : (c : ℕ) (ls : List ℕ) (k : ℕ) → (getD (cutAt c ls) k 0 ≡ 0) ⊎ (getD (cutAt c ls) k 0 ≡ getD ls k 0)
