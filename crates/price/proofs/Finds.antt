@@ -17,7 +17,7 @@ use Rattle.price.proofs.Blocks.{Led, led-each}
 -- of the set S: it is empty; or x is the least value in it, and l the first block that has it
 pub data Finds (f : List ℕ → ℕ) (S : List ℕ → Type 0) : Least → List ℕ → Type 0 where
   nothing : {l : List ℕ} → ((k : List ℕ) → S k → ⊥) → Finds f S none l
-  thing : {x : ℕ} {l : List ℕ} → Best f Before S l → x ≡ f l → Finds f S (some x) l
+  first : {x : ℕ} {l : List ℕ} → Best f Before S l → x ≡ f l → Finds f S (some x) l
 
 -- ---- the lesser of two
 abbrev pub Either : (List ℕ → Type 0) → (List ℕ → Type 0) → List ℕ → Type 0
@@ -38,30 +38,29 @@ module _ {f : List ℕ → ℕ} {S T : List ℕ → Type 0} where
       → Finds f (Either S T) (lesser x y) (cond (under y x) l j)
   unfolding lesser under
   finds-lesser order (nothing h) (nothing g) = nothing (λ k s. ⊎-elim (h k) (g k) s)
-  finds-lesser order (nothing h) (thing g q) = thing (best-second g (λ k s. absurd (h k s))) q
-  finds-lesser order (thing h p) (nothing g) = thing (best-first h (λ k s. absurd (g k s))) p
-  finds-lesser {j = j} {l = l} order (thing {x = x} h p) (thing {x = y} g q) = go (ltb y x) refl
+  finds-lesser order (nothing h) (first g q) = first (best-second g (λ k s. absurd (h k s))) q
+  finds-lesser order (first h p) (nothing g) = first (best-first h (λ k s. absurd (g k s))) p
+  finds-lesser {j = j} {l = l} order (first {x = x} h p) (first {x = y} g q) = go (ltb y x) refl
     where
+      earlier : (k : List ℕ) → T k → Wins f Before l k → x ≤ y → Wins f Before j k
+      earlier k s i e = record { no-dearer = omega arith; no-later = λ v. order k s }
+
       go : (t : Bool) → ltb y x ≡ t → Finds f (Either S T) (cond t (some y) (some x)) (cond t l j)
-      go true e = thing (best-second g (λ k s. let i = h .wins k s in omega (arith, ltb-true y x e))) q
-      go false e =
-          thing
-          (best-first h (λ k s.
-          let i = g .wins k s in record { no-dearer = omega (arith, ltb-false y x e); no-later = λ e. order k s }))
-          p
+      go true e = first (best-second g (λ k s. let i = h .wins k s in omega (arith, ltb-true y x e))) q
+      go false e = first (best-first h (λ k s. earlier k s (g .wins k s) (ltb-false y x e))) p
 
 -- ---- the same by other words, at c more, and with a magnitude in front
 pub finds-same : {f : List ℕ → ℕ} {S T : List ℕ → Type 0} {x : Least} {l : List ℕ} → ((k : List ℕ) → S k → T k)
     → ((k : List ℕ) → T k → S k) → Finds f S x l → Finds f T x l
 finds-same to from (nothing h) = nothing (λ k s. h k (from k s))
-finds-same to from (thing h p) = thing (best-of-same to from h) p
+finds-same to from (first h p) = first (best-of-same to from h) p
 
 pub finds-plus : {f w : List ℕ → ℕ} {S : List ℕ → Type 0} {x : Least} {l : List ℕ} (c : ℕ) → ((k : List ℕ) → S k → w k ≡ c + f k)
     → Finds f S x l → Finds w S (plus c x) l
 unfolding plus
 finds-plus c e (nothing h) = nothing h
-finds-plus {f} {w} {l = l} c e (thing {x = y} h p) =
-    thing {x = c + y} (record { member = h .member; wins = λ k s. dearer k (e k s) (h .wins k s) }) (omega (arith, here))
+finds-plus {f} {w} {l = l} c e (first {x = y} h p) =
+    first {x = c + y} (record { member = h .member; wins = λ k s. dearer k (e k s) (h .wins k s) }) (omega (arith, here))
   where
     here : w l ≡ c + f l
     here = e l (h .member)
@@ -75,8 +74,8 @@ pub finds-led : {f w : List ℕ → ℕ} {g : ℕ → ℕ} {A : ℕ → Type 0} 
     → Finds w (Led A K) (plus (g a) x) (a ∷ l)
 unfolding plus
 finds-led e i (nothing h) = nothing (led-each (λ k. ⊥) (λ b k s t. h k t))
-finds-led {f} {w} {g} {A} {K} {a} {l = l} e i (thing {x = y} h p) =
-    thing {x = g a + y} {l = a ∷ l}
+finds-led {f} {w} {g} {A} {K} {a} {l = l} e i (first {x = y} h p) =
+    first {x = g a + y} {l = a ∷ l}
     (record {
       member = (i .member, h .member);
       wins = led-each (Wins w Before (a ∷ l)) (λ b k s t. dearer b k (e b k s t) (i .wins b s) (h .wins k t));

@@ -22,7 +22,7 @@ use Rattle.price.proofs.Dictionary.{Before, less, dictionary}
 use Rattle.price.proofs.Blocks.{Led, led-each, Block, block-length, empty-block, empty-first}
 use Rattle.price.proofs.Blocks.{in-allowed, allowed-in, allowed-ordered}
 use Rattle.price.proofs.Cheapest.{cheapest-best}
-use Rattle.price.proofs.Finds.{Finds, nothing, thing, Either, finds-lesser, finds-same, finds-plus, finds-led}
+use Rattle.price.proofs.Finds.{Finds, nothing, first, Either, finds-lesser, finds-same, finds-plus, finds-led}
 
 -- ---- the blocks with a nonzero level, and all of them
 abbrev Coded : Rule → List ℕ → List ℕ → Type 0
@@ -30,44 +30,6 @@ Coded r ps k = Block r ps k × (allZero k ≡ false)
 
 abbrev Empty : Rule → List ℕ → List ℕ → Type 0
 Empty r ps k = Block r ps k × (allZero k ≡ true)
-
-allZero-empty : (ps : List ℕ) → allZero (emptyBlock ps) ≡ true
-unfolding emptyBlock size
-allZero-empty [] = refl
-allZero-empty (p ∷ ps) = go (size (emptyBlock ps)) (allZero-empty ps)
-  where
-    go : (n : ℕ) → isZero n ≡ true → isZero (inFront 0 n) ≡ true
-    go zero e = refl
-    go (suc n) e = e
-
--- e is paid by the empty block, and by the others c and what is still to be paid
-finds-all : {f w : List ℕ → ℕ} {x : Least} {l : List ℕ} (r : Rule) (ps : List ℕ) (e c : ℕ)
-    → ((k : List ℕ) → Block r ps k → w k ≡ cond (allZero k) e (c + f k)) → Finds f (Coded r ps) x l
-    → Finds w (Block r ps) (lesser (some e) (plus c x)) (cond (under (plus c x) (some e)) l (emptyBlock ps))
-finds-all {f} {w} r ps e c h g =
-    finds-same (λ k s. ⊎-elim (λ i. i .0) (λ i. i .0) s) (λ k b. split k b (allZero k) refl)
-    (finds-lesser (λ k s. empty-first r ps k (s .0)) (thing empty-best (sym (alike (emptyBlock ps) ended))) (finds-plus c (λ k s. h k (s .0) ∙ rw (s .1)) g))
-  where
-    split : (k : List ℕ) → Block r ps k → (t : Bool) → allZero k ≡ t → Either (Empty r ps) (Coded r ps) k
-    split k b true q = inl (b, q)
-    split k b false q = inr (b, q)
-
-    ended : Empty r ps (emptyBlock ps)
-    ended = (empty-block r ps, allZero-empty ps)
-
-    alike : (k : List ℕ) → Empty r ps k → w k ≡ e
-    alike k s = h k (s .0) ∙ rw (s .1)
-
-    empty-best : Best w Before (Empty r ps) (emptyBlock ps)
-    empty-best =
-        record {
-          member = ended;
-          wins = λ k s. record { no-dearer = omega (arith, alike k s, alike (emptyBlock ps) ended); no-later = λ q. empty-first r ps k (s .0) };
-        }
-
--- ---- one place: a 0 in front of a block with a nonzero level, or a nonzero magnitude in front of any
-abbrev Level : ℕ → ℕ → Type 0
-Level m a = Allowed m a × (0 < a)
 
 zero-front : (k : List ℕ) → allZero (0 ∷ k) ≡ allZero k
 unfolding size
@@ -86,6 +48,42 @@ level-front a k h = go a (size k) h
     go (suc a) zero h = refl
     go (suc a) (suc n) h = refl
 
+allZero-empty : (ps : List ℕ) → allZero (emptyBlock ps) ≡ true
+unfolding emptyBlock size
+allZero-empty [] = refl
+allZero-empty (p ∷ ps) = zero-front (emptyBlock ps) ∙ allZero-empty ps
+
+-- e is paid by the empty block, and by the others c and what is still to be paid
+finds-all : {f w : List ℕ → ℕ} {x : Least} {l : List ℕ} (r : Rule) (ps : List ℕ) (e c : ℕ)
+    → ((k : List ℕ) → Block r ps k → w k ≡ cond (allZero k) e (c + f k)) → Finds f (Coded r ps) x l
+    → Finds w (Block r ps) (lesser (some e) (plus c x)) (cond (under (plus c x) (some e)) l (emptyBlock ps))
+finds-all {f} {w} r ps e c h g =
+    finds-same (λ k s. ⊎-elim (λ i. i .0) (λ i. i .0) s) (λ k b. split k b (allZero k) refl)
+    (finds-lesser (λ k s. empty-first r ps k (s .0)) (first empty-best (sym (alike (emptyBlock ps) ended)))
+    (finds-plus c (λ k s. h k (s .0) ∙ rw (s .1)) g))
+  where
+    split : (k : List ℕ) → Block r ps k → (t : Bool) → allZero k ≡ t → Either (Empty r ps) (Coded r ps) k
+    split k b true q = inl (b, q)
+    split k b false q = inr (b, q)
+
+    ended : Empty r ps (emptyBlock ps)
+    ended = (empty-block r ps, allZero-empty ps)
+
+    alike : (k : List ℕ) → Empty r ps k → w k ≡ e
+    alike k s = h k (s .0) ∙ rw (s .1)
+
+    empty-best : Best w Before (Empty r ps) (emptyBlock ps)
+    empty-best =
+        record {
+          member = ended;
+          wins = λ k s.
+              record { no-dearer = omega (arith, alike k s, alike (emptyBlock ps) ended); no-later = λ q. empty-first r ps k (s .0) };
+        }
+
+-- ---- one place: a 0 in front of a block with a nonzero level, or a nonzero magnitude in front of any
+abbrev Level : ℕ → ℕ → Type 0
+Level m a = Allowed m a × (0 < a)
+
 nonzero : {S : Type 0} (a : ℕ) → 0 < a → (a ≡ 0) ⊎ S → S
 nonzero a h (inl e) = absurd (omega arith)
 nonzero a h (inr s) = s
@@ -98,7 +96,8 @@ offer-best r z p zero =
 offer-best r z p (suc n) =
     let m = suc (suc n) in
     best-of-same (λ a s. (allowed-in m a (inr s), allowed-ordered m .0 a s)) (λ a h. nonzero a (h .1) (in-allowed m a (h .0)))
-    (first-least-best (cost r z p) smaller-first (suc n) (m ∷ []) (λ a s. ⊎-elim (λ e. omega arith) (λ e. absurd e) s, (λ a s. absurd s, tt)))
+    (first-least-best (cost r z p) smaller-first (suc n) (m ∷ [])
+    (λ a s. ⊎-elim (λ e. omega arith) (λ e. absurd e) s, (λ a s. absurd s, tt)))
 
 module _ (r : Rule) (z : Bool) (p : ℕ) (ps : List ℕ)
     (later : (y : Bool) → Finds (λ k. rest r y k ps) (Coded r ps) (after y (ahead r ps)) (readOff r y ps)) where
@@ -163,11 +162,13 @@ module _ (r : Rule) (z : Bool) (p : ℕ) (ps : List ℕ)
   zero-before : (m : ℕ) (l : List ℕ) → Led (Level m) (Block r ps) l → Before (0 ∷ follows 0) l
   zero-before m = led-each (Before (0 ∷ follows 0)) (λ a k h b. less (h .1))
 
+  no-level : (l : List ℕ) → Led (Level 0) (Block r ps) l → ⊥
+  no-level = led-each (λ l. ⊥) (λ a k h b. nonzero a (h .1) (in-allowed 0 a (h .0)))
+
   place-finds : (m : ℕ) → (let a = takenBy r z p ps t m in Finds value (CodedBy m) (leastBy r z p ps t m) (a ∷ follows a))
-  unfolding takenBy leastBy lesser under
+  unfolding takenBy leastBy
   place-finds zero =
-      finds-same (joined 0) (parted 0)
-      (finds-lesser {l = []} (zero-before 0) zero-finds (nothing (led-each (λ l. ⊥) (λ a k h b. nonzero a (h .1) (in-allowed 0 a (h .0))))))
+      finds-same (λ l s. joined 0 l (inl s)) (λ l c. ⊎-elim (λ s. s) (λ s. absurd (no-level l s)) (parted 0 l c)) zero-finds
   place-finds (suc n) =
       let a = offer r z p (suc n) in
       rw (which a (under (withLevel r z p ps t a) (withZero r z p ps t)))
@@ -202,12 +203,13 @@ module _ (r : Rule) (ps : List ℕ) where
   found-finds : Finds (λ ls. price r ls ps) (Block r ps) (foundPrice r ps) (found r ps)
   unfolding found foundPrice isCoded codedPrice emptyPrice
   found-finds =
-      finds-all r ps (uncoded r ps + r .empty) (r .coded) (λ ls b. price-recursive r ls ps (block-length r ps ls b)) (ahead-finds r ps false)
+      finds-all r ps (uncoded r ps + r .empty) (r .coded) (λ ls b. price-recursive r ls ps (block-length r ps ls b))
+      (ahead-finds r ps false)
 
   is-cheapest : {x : Least} {ls : List ℕ} → Finds (λ k. price r k ps) (Block r ps) x ls
       → (ls ≡ cheapest r ps) × (x ≡ some (price r (cheapest r ps) ps))
   is-cheapest (nothing h) = absurd (h (emptyBlock ps) (empty-block r ps))
-  is-cheapest (thing h e) = let q = best-unique _ dictionary h (cheapest-best r ps) in (q, rw (e, q))
+  is-cheapest (first h e) = let q = best-unique _ dictionary h (cheapest-best r ps) in (q, rw (e, q))
 
   pub found-is-cheapest : found r ps ≡ cheapest r ps
   found-is-cheapest = is-cheapest found-finds .0
