@@ -1,7 +1,6 @@
 pub mod Lambda
 pub mod Level
 pub mod Rates
-pub mod ByHand
 pub mod Best
 pub mod Choice
 pub mod Price
@@ -15,5 +14,6 @@ pub mod Blocks
 pub mod Cheapest
 pub mod Finds
 pub mod Search
+pub mod ByHand
 pub mod Tests
 pub mod Counting

@@ -1,7 +1,7 @@
 -- The search finds the cheapest block of all, and its price. Along the places, from the last to the first, and in both states:
 -- what it holds is the least that is still to be paid by a block with a nonzero level, and what it reads off is the first block in
 -- dictionary order that pays no more. Assumes nothing.
-use mathlib.Core.Path.{_≡_, refl, sym, _∙_}
+use mathlib.Core.Path.{_≡_, refl, sym, subst, _∙_}
 use mathlib.Core.Logic.{_⊎_, inl, inr, ⊎-elim}
 use mathlib.Core.Bool.{Bool, true, false, cond, true≢false}
 use mathlib.Core.List.{List, [], _∷_}
@@ -171,10 +171,11 @@ module _ (r : Rule) (z : Bool) (p : ℕ) (ps : List ℕ)
       finds-same (λ l s. joined 0 l (inl s)) (λ l c. ⊎-elim (λ s. s) (λ s. absurd (no-level l s)) (parted 0 l c)) zero-finds
   place-finds (suc n) =
       let a = offer r z p (suc n) in
-      rw (which a (under (withLevel r z p ps t a) (withZero r z p ps t)))
+      let on = under (withLevel r z p ps t a) (withZero r z p ps t) in
+      subst (Finds value (CodedBy (suc n)) (leastBy r z p ps t (suc n))) (which a on)
       (finds-same (joined (suc n)) (parted (suc n)) (finds-lesser (zero-before (suc n)) zero-finds (level-finds n)))
     where
-      which : (a : ℕ) (on : Bool) → cond on a 0 ∷ follows (cond on a 0) ≡ cond on (a ∷ follows a) (0 ∷ follows 0)
+      which : (a : ℕ) (on : Bool) → cond on (a ∷ follows a) (0 ∷ follows 0) ≡ cond on a 0 ∷ follows (cond on a 0)
       which a true = refl
       which a false = refl
 
