@@ -11,7 +11,8 @@ use Rattle.refusals.specs.declared.Component.{Component}
 use Rattle.refusals.specs.Faults.{Verdict, accepted, refused}
 use Rattle.price.specs.declared.Costs.{Costs}
 use Rattle.price.specs.declared.Settings.{Settings}
-use Rattle.quantise.specs.Block.{Quant, called}
+use Rattle.quantise.specs.declared.Mode.{Mode}
+use Rattle.quantise.specs.Block.{Quant, calledIn}
 use Rattle.quantise.specs.Call as quant
 use Rattle.subblock.specs.Call as three
 
@@ -38,9 +39,9 @@ abbrev pub costsIn : List ℕ → Costs
 costsIn l = record { run = eightFrom 0 l; level = eightFrom 8 l; last = fourFrom 16 l; cbf = eightFrom 20 l }
 
 -- the quantiser's call
-abbrev pub quantAsked : List ℤ → ℕ → Component → ℕ → Float → ℕ → ℕ → List ℕ → Quant
-quantAsked block side k qp lambda slice coded costs =
-    called block side k (record { qp = qp; lambda = lambda }) (yes slice) (yes coded) (costsIn costs)
+abbrev pub quantAsked : Mode → List ℤ → ℕ → Component → ℕ → Float → ℕ → ℕ → List ℕ → Quant
+quantAsked mode block side k qp lambda slice coded costs =
+    calledIn mode block side k (record { qp = qp; lambda = lambda }) (yes slice) (yes coded) (costsIn costs)
 
 -- the quantiser's result, and its answer: the component, the count, the price
 abbrev pub quantResult : quant.Outcome → ℕ
@@ -55,9 +56,9 @@ quantWritten (quant.refusedWith number component) = component ∷ 0 ∷ 0 ∷ []
 abbrev pub settingsIn : List ℕ → List Float → ℕ → Settings
 settingsIn qp lambda k = record { qp = getD qp k 0; lambda = getD lambda k nan }
 
-abbrev pub threeAsked : List ℤ → ℕ → List ℕ → List Float → ℕ → ℕ → ℕ → List ℕ → three.SubBlock
-threeAsked buffer side qp lambda run slice coded costs =
-    three.called buffer side (settingsIn qp lambda 0) (settingsIn qp lambda 1) (settingsIn qp lambda 2) run (yes slice) (yes coded) (costsIn costs)
+abbrev pub threeAsked : Mode → List ℤ → ℕ → List ℕ → List Float → ℕ → ℕ → ℕ → List ℕ → three.SubBlock
+threeAsked mode buffer side qp lambda run slice coded costs =
+    three.calledIn mode buffer side (settingsIn qp lambda 0) (settingsIn qp lambda 1) (settingsIn qp lambda 2) run (yes slice) (yes coded) (costsIn costs)
 
 -- its result, and its answer: the component, the counts of Y, U, V, their prices
 abbrev pub threeResult : three.Outcome → ℕ

@@ -1,17 +1,15 @@
 // The exports for C and Rust, nothing else: each takes whole numbers, f64s, slices and arrays, and answers 0 or a refusal's number.
-use crate::wire::costs_of;
-use crate::wire::put_three;
 use crate::wire::quantise;
-use price::Settings;
+use crate::wire::sub_block;
+use quantise::Mode;
 use refusals::Component;
 use refusals::number;
-use subblock::Request;
-use subblock::sub_block_tq;
 use transform::TransAnswer;
 use transform::trans;
 ghost use mathlib.Core.Path.{_≡_};
 ghost use Rattle.refusals.specs.declared.Component.the-variants.{Y, U, «V»};
 ghost use Rattle.transform.specs.Call.{called, transBuffer, transVerdict};
+ghost use Rattle.quantise.specs.declared.Mode.the-variants.{Walk, Least};
 ghost use Rattle.quantise.specs.Call.{quantAnswer, quantBuffer};
 ghost use Rattle.subblock.specs.Call.{subBlockAnswer, subBlockBuffer};
 ghost use Rattle.galemosu.specs.Wire.{transResult, quantAsked, quantResult, quantWritten, threeAsked, threeResult, threeWritten};
@@ -40,9 +38,9 @@ pub extern "C" fn galemosu_quantise_y(
     costs: &[u64; 28],
     answer: &mut [u64; 3],
 ) -> u32
-    ensures result { λ r. ⌜ r ≡ quantResult (quantAnswer (quantAsked (now (block .entry)) «log2_side» Y qp lambda «intra_slice» «intra_coded» (now (costs .entry)))) ⌝ }
-    ensures answer { λ _. ⌜ now (answer .exit) ≡ quantWritten (quantAnswer (quantAsked (now (block .entry)) «log2_side» Y qp lambda «intra_slice» «intra_coded» (now (costs .entry)))) ⌝ }
-    ensures block { λ _. ⌜ now (block .exit) ≡ quantBuffer (quantAsked (now (block .entry)) «log2_side» Y qp lambda «intra_slice» «intra_coded» (now (costs .entry))) ⌝ }
+    ensures result { λ r. ⌜ r ≡ quantResult (quantAnswer (quantAsked Walk (now (block .entry)) «log2_side» Y qp lambda «intra_slice» «intra_coded» (now (costs .entry)))) ⌝ }
+    ensures answer { λ _. ⌜ now (answer .exit) ≡ quantWritten (quantAnswer (quantAsked Walk (now (block .entry)) «log2_side» Y qp lambda «intra_slice» «intra_coded» (now (costs .entry)))) ⌝ }
+    ensures block { λ _. ⌜ now (block .exit) ≡ quantBuffer (quantAsked Walk (now (block .entry)) «log2_side» Y qp lambda «intra_slice» «intra_coded» (now (costs .entry))) ⌝ }
 {
     quantise(
         block,
@@ -54,6 +52,7 @@ pub extern "C" fn galemosu_quantise_y(
         intra_coded,
         costs,
         answer,
+        Mode::Walk,
     )
 }
 
@@ -68,9 +67,9 @@ pub extern "C" fn galemosu_quantise_u(
     costs: &[u64; 28],
     answer: &mut [u64; 3],
 ) -> u32
-    ensures result { λ r. ⌜ r ≡ quantResult (quantAnswer (quantAsked (now (block .entry)) «log2_side» U qp lambda «intra_slice» «intra_coded» (now (costs .entry)))) ⌝ }
-    ensures answer { λ _. ⌜ now (answer .exit) ≡ quantWritten (quantAnswer (quantAsked (now (block .entry)) «log2_side» U qp lambda «intra_slice» «intra_coded» (now (costs .entry)))) ⌝ }
-    ensures block { λ _. ⌜ now (block .exit) ≡ quantBuffer (quantAsked (now (block .entry)) «log2_side» U qp lambda «intra_slice» «intra_coded» (now (costs .entry))) ⌝ }
+    ensures result { λ r. ⌜ r ≡ quantResult (quantAnswer (quantAsked Walk (now (block .entry)) «log2_side» U qp lambda «intra_slice» «intra_coded» (now (costs .entry)))) ⌝ }
+    ensures answer { λ _. ⌜ now (answer .exit) ≡ quantWritten (quantAnswer (quantAsked Walk (now (block .entry)) «log2_side» U qp lambda «intra_slice» «intra_coded» (now (costs .entry)))) ⌝ }
+    ensures block { λ _. ⌜ now (block .exit) ≡ quantBuffer (quantAsked Walk (now (block .entry)) «log2_side» U qp lambda «intra_slice» «intra_coded» (now (costs .entry))) ⌝ }
 {
     quantise(
         block,
@@ -82,6 +81,7 @@ pub extern "C" fn galemosu_quantise_u(
         intra_coded,
         costs,
         answer,
+        Mode::Walk,
     )
 }
 
@@ -96,9 +96,9 @@ pub extern "C" fn galemosu_quantise_v(
     costs: &[u64; 28],
     answer: &mut [u64; 3],
 ) -> u32
-    ensures result { λ r. ⌜ r ≡ quantResult (quantAnswer (quantAsked (now (block .entry)) «log2_side» «V» qp lambda «intra_slice» «intra_coded» (now (costs .entry)))) ⌝ }
-    ensures answer { λ _. ⌜ now (answer .exit) ≡ quantWritten (quantAnswer (quantAsked (now (block .entry)) «log2_side» «V» qp lambda «intra_slice» «intra_coded» (now (costs .entry)))) ⌝ }
-    ensures block { λ _. ⌜ now (block .exit) ≡ quantBuffer (quantAsked (now (block .entry)) «log2_side» «V» qp lambda «intra_slice» «intra_coded» (now (costs .entry))) ⌝ }
+    ensures result { λ r. ⌜ r ≡ quantResult (quantAnswer (quantAsked Walk (now (block .entry)) «log2_side» «V» qp lambda «intra_slice» «intra_coded» (now (costs .entry)))) ⌝ }
+    ensures answer { λ _. ⌜ now (answer .exit) ≡ quantWritten (quantAnswer (quantAsked Walk (now (block .entry)) «log2_side» «V» qp lambda «intra_slice» «intra_coded» (now (costs .entry)))) ⌝ }
+    ensures block { λ _. ⌜ now (block .exit) ≡ quantBuffer (quantAsked Walk (now (block .entry)) «log2_side» «V» qp lambda «intra_slice» «intra_coded» (now (costs .entry))) ⌝ }
 {
     quantise(
         block,
@@ -110,6 +110,7 @@ pub extern "C" fn galemosu_quantise_v(
         intra_coded,
         costs,
         answer,
+        Mode::Walk,
     )
 }
 
@@ -125,29 +126,138 @@ pub extern "C" fn galemosu_sub_block(
     costs: &[u64; 28],
     answer: &mut [u64; 7],
 ) -> u32
-    ensures result { λ r. ⌜ r ≡ threeResult (subBlockAnswer (threeAsked (now (buffer .entry)) «log2_luma» (now (qp .entry)) (now (lambda .entry)) run «intra_slice» «intra_coded» (now (costs .entry)))) ⌝ }
-    ensures answer { λ _. ⌜ now (answer .exit) ≡ threeWritten (subBlockAnswer (threeAsked (now (buffer .entry)) «log2_luma» (now (qp .entry)) (now (lambda .entry)) run «intra_slice» «intra_coded» (now (costs .entry)))) ⌝ }
-    ensures buffer { λ _. ⌜ now (buffer .exit) ≡ subBlockBuffer (threeAsked (now (buffer .entry)) «log2_luma» (now (qp .entry)) (now (lambda .entry)) run «intra_slice» «intra_coded» (now (costs .entry))) ⌝ }
+    ensures result { λ r. ⌜ r ≡ threeResult (subBlockAnswer (threeAsked Walk (now (buffer .entry)) «log2_luma» (now (qp .entry)) (now (lambda .entry)) run «intra_slice» «intra_coded» (now (costs .entry)))) ⌝ }
+    ensures answer { λ _. ⌜ now (answer .exit) ≡ threeWritten (subBlockAnswer (threeAsked Walk (now (buffer .entry)) «log2_luma» (now (qp .entry)) (now (lambda .entry)) run «intra_slice» «intra_coded» (now (costs .entry)))) ⌝ }
+    ensures buffer { λ _. ⌜ now (buffer .exit) ≡ subBlockBuffer (threeAsked Walk (now (buffer .entry)) «log2_luma» (now (qp .entry)) (now (lambda .entry)) run «intra_slice» «intra_coded» (now (costs .entry))) ⌝ }
 {
-    let q = Request {
-        side: log2_luma,
-        y: Settings {
-            qp: qp[0],
-            lambda: lambda[0],
-        },
-        u: Settings {
-            qp: qp[1],
-            lambda: lambda[1],
-        },
-        v: Settings {
-            qp: qp[2],
-            lambda: lambda[2],
-        },
-        run: run,
-        slice: intra_slice != 0,
-        coded: intra_coded != 0,
-        costs: costs_of(costs),
-    };
-    let coded = sub_block_tq(buffer, q);
-    put_three(coded, answer)
+    sub_block(
+        buffer,
+        log2_luma,
+        qp,
+        lambda,
+        run,
+        intra_slice,
+        intra_coded,
+        costs,
+        answer,
+        Mode::Walk,
+    )
+}
+
+// The same calls, which write the cheapest block of all.
+#[no_mangle]
+pub extern "C" fn galemosu_quantise_least_y(
+    block: &mut [i16],
+    log2_side: usize,
+    qp: u32,
+    lambda: f64,
+    intra_slice: u32,
+    intra_coded: u32,
+    costs: &[u64; 28],
+    answer: &mut [u64; 3],
+) -> u32
+    ensures result { λ r. ⌜ r ≡ quantResult (quantAnswer (quantAsked Least (now (block .entry)) «log2_side» Y qp lambda «intra_slice» «intra_coded» (now (costs .entry)))) ⌝ }
+    ensures answer { λ _. ⌜ now (answer .exit) ≡ quantWritten (quantAnswer (quantAsked Least (now (block .entry)) «log2_side» Y qp lambda «intra_slice» «intra_coded» (now (costs .entry)))) ⌝ }
+    ensures block { λ _. ⌜ now (block .exit) ≡ quantBuffer (quantAsked Least (now (block .entry)) «log2_side» Y qp lambda «intra_slice» «intra_coded» (now (costs .entry))) ⌝ }
+{
+    quantise(
+        block,
+        log2_side,
+        Component::Y,
+        qp,
+        lambda,
+        intra_slice,
+        intra_coded,
+        costs,
+        answer,
+        Mode::Least,
+    )
+}
+
+#[no_mangle]
+pub extern "C" fn galemosu_quantise_least_u(
+    block: &mut [i16],
+    log2_side: usize,
+    qp: u32,
+    lambda: f64,
+    intra_slice: u32,
+    intra_coded: u32,
+    costs: &[u64; 28],
+    answer: &mut [u64; 3],
+) -> u32
+    ensures result { λ r. ⌜ r ≡ quantResult (quantAnswer (quantAsked Least (now (block .entry)) «log2_side» U qp lambda «intra_slice» «intra_coded» (now (costs .entry)))) ⌝ }
+    ensures answer { λ _. ⌜ now (answer .exit) ≡ quantWritten (quantAnswer (quantAsked Least (now (block .entry)) «log2_side» U qp lambda «intra_slice» «intra_coded» (now (costs .entry)))) ⌝ }
+    ensures block { λ _. ⌜ now (block .exit) ≡ quantBuffer (quantAsked Least (now (block .entry)) «log2_side» U qp lambda «intra_slice» «intra_coded» (now (costs .entry))) ⌝ }
+{
+    quantise(
+        block,
+        log2_side,
+        Component::U,
+        qp,
+        lambda,
+        intra_slice,
+        intra_coded,
+        costs,
+        answer,
+        Mode::Least,
+    )
+}
+
+#[no_mangle]
+pub extern "C" fn galemosu_quantise_least_v(
+    block: &mut [i16],
+    log2_side: usize,
+    qp: u32,
+    lambda: f64,
+    intra_slice: u32,
+    intra_coded: u32,
+    costs: &[u64; 28],
+    answer: &mut [u64; 3],
+) -> u32
+    ensures result { λ r. ⌜ r ≡ quantResult (quantAnswer (quantAsked Least (now (block .entry)) «log2_side» «V» qp lambda «intra_slice» «intra_coded» (now (costs .entry)))) ⌝ }
+    ensures answer { λ _. ⌜ now (answer .exit) ≡ quantWritten (quantAnswer (quantAsked Least (now (block .entry)) «log2_side» «V» qp lambda «intra_slice» «intra_coded» (now (costs .entry)))) ⌝ }
+    ensures block { λ _. ⌜ now (block .exit) ≡ quantBuffer (quantAsked Least (now (block .entry)) «log2_side» «V» qp lambda «intra_slice» «intra_coded» (now (costs .entry))) ⌝ }
+{
+    quantise(
+        block,
+        log2_side,
+        Component::V,
+        qp,
+        lambda,
+        intra_slice,
+        intra_coded,
+        costs,
+        answer,
+        Mode::Least,
+    )
+}
+
+#[no_mangle]
+pub extern "C" fn galemosu_sub_block_least(
+    buffer: &mut [i16],
+    log2_luma: usize,
+    qp: &[u32; 3],
+    lambda: &[f64; 3],
+    run: u32,
+    intra_slice: u32,
+    intra_coded: u32,
+    costs: &[u64; 28],
+    answer: &mut [u64; 7],
+) -> u32
+    ensures result { λ r. ⌜ r ≡ threeResult (subBlockAnswer (threeAsked Least (now (buffer .entry)) «log2_luma» (now (qp .entry)) (now (lambda .entry)) run «intra_slice» «intra_coded» (now (costs .entry)))) ⌝ }
+    ensures answer { λ _. ⌜ now (answer .exit) ≡ threeWritten (subBlockAnswer (threeAsked Least (now (buffer .entry)) «log2_luma» (now (qp .entry)) (now (lambda .entry)) run «intra_slice» «intra_coded» (now (costs .entry)))) ⌝ }
+    ensures buffer { λ _. ⌜ now (buffer .exit) ≡ subBlockBuffer (threeAsked Least (now (buffer .entry)) «log2_luma» (now (qp .entry)) (now (lambda .entry)) run «intra_slice» «intra_coded» (now (costs .entry))) ⌝ }
+{
+    sub_block(
+        buffer,
+        log2_luma,
+        qp,
+        lambda,
+        run,
+        intra_slice,
+        intra_coded,
+        costs,
+        answer,
+        Mode::Least,
+    )
 }

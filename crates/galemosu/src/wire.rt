@@ -1,18 +1,20 @@
 // The calls over flat numbers.
 use price::Costs;
 use price::Settings;
-use quantise::Coded;
+use quantise::Mode;
 use quantise::QuantAnswer;
 use quantise::quant_nnz;
 use refusals::Component;
 use refusals::component_number;
 use refusals::number;
+use subblock::Request;
 use subblock::SubBlockAnswer;
+use subblock::sub_block_tq;
 ghost use mathlib.Core.Path.{_≡_};
 ghost use Prim.Native.Nat.{_≤_};
 ghost use Rattle.quantise.specs.Call.{quantAnswer, quantBuffer};
-ghost use Rattle.subblock.specs.Call.{paperOf};
-ghost use Rattle.galemosu.specs.Wire.{fourFrom, eightFrom, costsIn, quantAsked, quantResult, quantWritten, threeResult, threeWritten};
+ghost use Rattle.subblock.specs.Call.{paperOf, subBlockAnswer, subBlockBuffer};
+ghost use Rattle.galemosu.specs.Wire.{fourFrom, eightFrom, costsIn, quantAsked, quantResult, quantWritten, threeAsked, threeResult, threeWritten};
 
 fn four(c: &[u64; 28], i: usize) -> [u64; 4]
     requires { ⌜ i ≤ 24 ⌝ }
@@ -37,7 +39,7 @@ fn eight(c: &[u64; 28], i: usize) -> [u64; 8]
     ]
 }
 
-pub fn costs_of(c: &[u64; 28]) -> Costs
+fn costs_of(c: &[u64; 28]) -> Costs
     ensures { λ r. ⌜ r ≡ costsIn (now (c .entry)) ⌝ }
 {
     Costs {
@@ -58,10 +60,11 @@ pub fn quantise(
     intra_coded: u32,
     costs: &[u64; 28],
     answer: &mut [u64; 3],
+    mode: Mode,
 ) -> u32
-    ensures result { λ r. ⌜ r ≡ quantResult (quantAnswer (quantAsked (now (block .entry)) «log2_side» component qp lambda «intra_slice» «intra_coded» (now (costs .entry)))) ⌝ }
-    ensures answer { λ _. ⌜ now (answer .exit) ≡ quantWritten (quantAnswer (quantAsked (now (block .entry)) «log2_side» component qp lambda «intra_slice» «intra_coded» (now (costs .entry)))) ⌝ }
-    ensures block { λ _. ⌜ now (block .exit) ≡ quantBuffer (quantAsked (now (block .entry)) «log2_side» component qp lambda «intra_slice» «intra_coded» (now (costs .entry))) ⌝ }
+    ensures result { λ r. ⌜ r ≡ quantResult (quantAnswer (quantAsked mode (now (block .entry)) «log2_side» component qp lambda «intra_slice» «intra_coded» (now (costs .entry)))) ⌝ }
+    ensures answer { λ _. ⌜ now (answer .exit) ≡ quantWritten (quantAnswer (quantAsked mode (now (block .entry)) «log2_side» component qp lambda «intra_slice» «intra_coded» (now (costs .entry)))) ⌝ }
+    ensures block { λ _. ⌜ now (block .exit) ≡ quantBuffer (quantAsked mode (now (block .entry)) «log2_side» component qp lambda «intra_slice» «intra_coded» (now (costs .entry))) ⌝ }
 {
     let t = costs_of(costs);
     let coded = quant_nnz(
@@ -75,6 +78,7 @@ pub fn quantise(
         intra_slice != 0,
         intra_coded != 0,
         t,
+        mode,
     );
     match coded {
         QuantAnswer::Coded(c) => {
@@ -89,7 +93,7 @@ pub fn quantise(
 }
 
 // What the three-component call answered, as its result and its answer.
-pub fn put_three(coded: SubBlockAnswer, answer: &mut [u64; 7]) -> u32
+fn put_three(coded: SubBlockAnswer, answer: &mut [u64; 7]) -> u32
     ensures result { λ r. ⌜ r ≡ threeResult (paperOf coded) ⌝ }
     ensures answer { λ _. ⌜ now (answer .exit) ≡ threeWritten (paperOf coded) ⌝ }
 {
@@ -111,4 +115,44 @@ pub fn put_three(coded: SubBlockAnswer, answer: &mut [u64; 7]) -> u32
             number(why)
         }
     }
+}
+
+pub fn sub_block(
+    buffer: &mut [i16],
+    log2_luma: usize,
+    qp: &[u32; 3],
+    lambda: &[f64; 3],
+    run: u32,
+    intra_slice: u32,
+    intra_coded: u32,
+    costs: &[u64; 28],
+    answer: &mut [u64; 7],
+    mode: Mode,
+) -> u32
+    ensures result { λ r. ⌜ r ≡ threeResult (subBlockAnswer (threeAsked mode (now (buffer .entry)) «log2_luma» (now (qp .entry)) (now (lambda .entry)) run «intra_slice» «intra_coded» (now (costs .entry)))) ⌝ }
+    ensures answer { λ _. ⌜ now (answer .exit) ≡ threeWritten (subBlockAnswer (threeAsked mode (now (buffer .entry)) «log2_luma» (now (qp .entry)) (now (lambda .entry)) run «intra_slice» «intra_coded» (now (costs .entry)))) ⌝ }
+    ensures buffer { λ _. ⌜ now (buffer .exit) ≡ subBlockBuffer (threeAsked mode (now (buffer .entry)) «log2_luma» (now (qp .entry)) (now (lambda .entry)) run «intra_slice» «intra_coded» (now (costs .entry))) ⌝ }
+{
+    let q = Request {
+        side: log2_luma,
+        y: Settings {
+            qp: qp[0],
+            lambda: lambda[0],
+        },
+        u: Settings {
+            qp: qp[1],
+            lambda: lambda[1],
+        },
+        v: Settings {
+            qp: qp[2],
+            lambda: lambda[2],
+        },
+        run: run,
+        slice: intra_slice != 0,
+        coded: intra_coded != 0,
+        costs: costs_of(costs),
+        mode: mode,
+    };
+    let coded = sub_block_tq(buffer, q);
+    put_three(coded, answer)
 }

@@ -9,6 +9,7 @@ use libc::STDOUT_FILENO;
 use price::Costs;
 use price::Settings;
 use quantise::Coded;
+use quantise::Mode;
 use quantise::QuantAnswer;
 use quantise::quant_nnz;
 use refusals::Component;
@@ -41,7 +42,16 @@ fn code(block: &mut [i16; 64]) -> QuantAnswer {
         qp: 34,
         lambda: 57.9,
     };
-    quant_nnz(block, 3, Component::Y, settings, true, true, costs())
+    quant_nnz(
+        block,
+        3,
+        Component::Y,
+        settings,
+        true,
+        true,
+        costs(),
+        Mode::Walk,
+    )
 }
 
 fn show_coded(tally: Tally, coded: Coded) {

@@ -10,7 +10,7 @@ use lib.IntN.{pos}
 use lib.Ieee.{Float, fin}
 use Rattle.refusals.specs.declared.Component.the-variants.{Y}
 use Rattle.transform.proofs.Numbers as transform
-use Rattle.quantise.specs.Block.{Quant, called}
+use Rattle.quantise.specs.Block.{Quant, called, calledIn}
 use Rattle.quantise.specs.Call.{coded, refusedWith, quantAnswer, quantBuffer}
 use Rattle.quantise.proofs.Numbers as quantise
 use Rattle.quantise.proofs.Numbers.{p, parts, at, flat, usual}
@@ -25,38 +25,38 @@ most = fin false 1 (pos 13)
 
 -- P10: 29183 has m 32767, and 29184 is refused with 7
 p10-passes : quantise.Gives (large 3 usual 1 29183) 1 34366152960 (p 32767 ∷ replicate 1023 (p 0))
-unfolding called quantAnswer quantBuffer
+unfolding calledIn quantAnswer quantBuffer
 p10-passes = (refl, refl)
 
 p10-refused : quantAnswer (large 3 usual 1 29184) ≡ refusedWith 7 0
-unfolding called quantAnswer
+unfolding calledIn quantAnswer
 p10-refused = refl
 
 -- P11: 8191 passes, 8192 is refused with 8
 p11-passes : quantAnswer (large 4 most 1 8191) ≡ coded 0 4511296275873792
-unfolding called quantAnswer
+unfolding calledIn quantAnswer
 p11-passes = refl
 
 p11-refused : quantAnswer (large 4 most 1 8192) ≡ refusedWith 8 0
-unfolding called quantAnswer
+unfolding calledIn quantAnswer
 p11-refused = refl
 
 -- P12: 64 coefficients of 16384 pass, 65 are refused with 9
 p12-passes : quantAnswer (large 4 (parts 0) 64 16384) ≡ coded 64 0
-unfolding called quantAnswer
+unfolding calledIn quantAnswer
 p12-passes = refl
 
 p12-refused : quantAnswer (large 4 (parts 0) 65 16384) ≡ refusedWith 9 0
-unfolding called quantAnswer
+unfolding calledIn quantAnswer
 p12-refused = refl
 
 -- 7 before 8 and 9, and 8 before 9
 pub seven-first : quantAnswer (large 3 most 65 29184) ≡ refusedWith 7 0
-unfolding called quantAnswer
+unfolding calledIn quantAnswer
 seven-first = refl
 
 pub eight-first : quantAnswer (large 4 most 65 16384) ≡ refusedWith 8 0
-unfolding called quantAnswer
+unfolding calledIn quantAnswer
 eight-first = refl
 
 pub numbers :

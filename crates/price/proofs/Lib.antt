@@ -16,4 +16,5 @@ pub mod Finds
 pub mod Search
 pub mod ByHand
 pub mod Tests
+pub mod Lighter
 pub mod Counting

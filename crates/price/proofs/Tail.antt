@@ -15,7 +15,7 @@ use Rattle.price.specs.OnePass.{Totals, start, advance, step, walk}
 use Rattle.price.proofs.Choice.{chosen-cheapest}
 use Rattle.price.proofs.OnePass.{one-pass-cut, one-pass-price}
 
-only-zero : (m a : ℕ) → m ≡ 0 → Allowed m a → a ≡ 0
+pub only-zero : (m a : ℕ) → m ≡ 0 → Allowed m a → a ≡ 0
 only-zero m a e (inl h) = h
 only-zero m a e (inr (inl h)) = omega arith
 only-zero m a e (inr (inr h)) = absurd (omega arith)

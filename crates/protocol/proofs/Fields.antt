@@ -16,7 +16,8 @@ use lib.Seq.{getD-set-other}
 use Rattle.refusals.specs.declared.Component.{Component}
 use Rattle.price.specs.declared.Costs.{Costs}
 use Rattle.price.specs.declared.Settings.{Settings}
-use Rattle.quantise.specs.Block.{Quant, called}
+use Rattle.quantise.specs.declared.Mode.{Mode}
+use Rattle.quantise.specs.Block.{Quant, calledIn}
 use Rattle.numerals.specs.declared.number.Natural.the-variants.{Is}
 use Rattle.numerals.specs.Number.{bitsOf, naturalUpTo}
 use Rattle.protocol.specs.Request.{limitOf, fieldOf, yes, componentBy, settingsAt, costsAt, quantiseBy}
@@ -47,7 +48,7 @@ one-more kinds fields i v before h k l =
     other e m = omega arith
 
 -- ---- the call of `quantise`, by what its fields were made into
-module _ {A : Type 0} (of : Quant → A) (x : A) (samples : List ℤ) (f : List ℕ) (k : Component) (s : Settings) (t : Costs) where
+module _ {A : Type 0} (of : Quant → A) (mode : Mode) (x : A) (samples : List ℤ) (f : List ℕ) (k : Component) (s : Settings) (t : Costs) where
   pub quantise-by : k ≡ componentBy (getD f 0 0) → s ≡ settingsAt 2 f → t ≡ costsAt 6 f
-      → x ≡ of (called samples (getD f 1 0) k s (yes (getD f 4 0)) (yes (getD f 5 0)) t) → x ≡ of (quantiseBy samples f)
+      → x ≡ of (calledIn mode samples (getD f 1 0) k s (yes (getD f 4 0)) (yes (getD f 5 0)) t) → x ≡ of (quantiseBy mode samples f)
   quantise-by p q r e = rw (p, q, r) at e

@@ -7,20 +7,30 @@ use Prim.Native.Nat.{ℕ}
 use native.Mathlib.Omega.{arith}
 use lib.Dec.{eqb}
 use lib.ListN.{getD}
+use Rattle.quantise.specs.declared.Mode.{Mode}
+use Rattle.quantise.specs.declared.Mode.the-variants.{Walk, Least}
 use Rattle.protocol.specs.declared.verb.Verb.{Verb}
 use Rattle.protocol.specs.declared.verb.Verb.the-variants.{Transform, Quantise, SubBlock}
 use Rattle.protocol.specs.declared.verb.Named.the-variants.{Is, Malformed}
 use Rattle.protocol.specs.Request.{wordOf, Names}
 
--- the first letters differ
+-- the first letters differ, and in the word of the one mode nothing stands behind the eighth
+modeBy : ℕ → Mode
+modeBy n = cond (eqb n 0) Walk Least
+
 lead : List ℕ → Verb
-lead w = cond (eqb (getD w 0 0) 116) Transform (cond (eqb (getD w 0 0) 113) Quantise SubBlock)
+unfolding modeBy
+lead w =
+    let m = modeBy (getD w 8 0) in
+    cond (eqb (getD w 0 0) 116) Transform (cond (eqb (getD w 0 0) 113) (Quantise m) (SubBlock m))
 
 lead-is : (v : Verb) → lead (wordOf v) ≡ v
 unfolding lead
 lead-is Transform = refl
-lead-is Quantise = refl
-lead-is SubBlock = refl
+lead-is (Quantise Walk) = refl
+lead-is (Quantise Least) = refl
+lead-is (SubBlock Walk) = refl
+lead-is (SubBlock Least) = refl
 
 module _ (w : List ℕ) where
   pub named : (u : Verb) → w ≡ wordOf u → Names w (Is u)
@@ -30,15 +40,15 @@ module _ (w : List ℕ) where
         whole = λ v f. ap Is (sym (lead-is u) ∙ ap lead (sym e ∙ f) ∙ lead-is v);
       }
 
-  other : (a : Bool) (v : Verb) → (w ≡ wordOf v → a ≡ true) → a ≡ false → w ≡ wordOf v → ⊥
-  other a v h f e = true≢false (sym (h e) ∙ f)
+  -- a comparison with the word of v that said no
+  pub record Not (v : Verb) : Type 0 where
+    pub test : Bool
+    pub said : test ≡ false
+    pub else : w ≡ wordOf v → test ≡ true
 
-  -- three comparisons that each said no
-  pub unnamed : (a b c : Bool) → a ≡ false → b ≡ false → c ≡ false
-      → (w ≡ wordOf Transform → a ≡ true) → (w ≡ wordOf Quantise → b ≡ true) → (w ≡ wordOf SubBlock → c ≡ true) → Names w Malformed
-  unnamed a b c fa fb fc ha hb hc = record { sound = λ v i. absurd (let no : _≡_ {A = ℕ} 0 1 = cc in let none : ⊥ = omega arith in none); whole = none }
-    where
-      none : (v : Verb) → w ≡ wordOf v → Malformed ≡ Is v
-      none Transform e = absurd (other a Transform ha fa e)
-      none Quantise e = absurd (other b Quantise hb fb e)
-      none SubBlock e = absurd (other c SubBlock hc fc e)
+  pub unnamed : ((v : Verb) → Not v) → Names w Malformed
+  unnamed all =
+      record {
+        sound = λ v i. absurd (let no : _≡_ {A = ℕ} 0 1 = cc in let none : ⊥ = omega arith in none);
+        whole = λ v e. absurd (true≢false (sym (all v .else e) ∙ all v .said));
+      }

@@ -12,7 +12,9 @@ use Rattle.refusals.specs.declared.Component.{Component}
 use Rattle.refusals.specs.declared.Component.the-variants.{Y, U, «V»}
 use Rattle.price.specs.declared.Costs.{Costs}
 use Rattle.price.specs.declared.Settings.{Settings}
-use Rattle.quantise.specs.Block.{Quant, called}
+use Rattle.quantise.specs.declared.Mode.{Mode}
+use Rattle.quantise.specs.declared.Mode.the-variants.{Walk, Least}
+use Rattle.quantise.specs.Block.{Quant, calledIn}
 use Rattle.subblock.specs.declared.Request.{Request}
 use Rattle.numerals.specs.declared.number.Natural.{Natural}
 use Rattle.protocol.specs.declared.verb.Verb.{Verb}
@@ -26,11 +28,16 @@ use Rattle.protocol.specs.declared.request.Place.the-variants.{At}
 use Rattle.numerals.specs.Number.{naturalUpTo, bitsOf}
 
 -- ---- verbs
--- `transform`, `quantise`, `subblock`
+-- what a verb's word ends with: nothing, or `-least`
+abbrev pub endOf : Mode → List ℕ
+endOf Walk = []
+endOf Least = 45 ∷ 108 ∷ 101 ∷ 97 ∷ 115 ∷ 116 ∷ []
+
+-- `transform`; `quantise` and `subblock`, each with its end
 abbrev pub wordOf : Verb → List ℕ
 wordOf Transform = 116 ∷ 114 ∷ 97 ∷ 110 ∷ 115 ∷ 102 ∷ 111 ∷ 114 ∷ 109 ∷ []
-wordOf Quantise = 113 ∷ 117 ∷ 97 ∷ 110 ∷ 116 ∷ 105 ∷ 115 ∷ 101 ∷ []
-wordOf SubBlock = 115 ∷ 117 ∷ 98 ∷ 98 ∷ 108 ∷ 111 ∷ 99 ∷ 107 ∷ []
+wordOf (Quantise m) = 113 ∷ 117 ∷ 97 ∷ 110 ∷ 116 ∷ 105 ∷ 115 ∷ 101 ∷ endOf m
+wordOf (SubBlock m) = 115 ∷ 117 ∷ 98 ∷ 98 ∷ 108 ∷ 111 ∷ 99 ∷ 107 ∷ endOf m
 
 -- a verb is read from its word, and from no other
 pub record Names (word : List ℕ) (r : Named) : Type 0 where
@@ -50,11 +57,11 @@ fieldOf kind w = cond (eqb kind 120) (bitsOf w) (naturalUpTo (limitOf kind) w)
 abbrev pub costKinds : List ℕ
 costKinds = replicate 28 119
 
--- the fields of each verb, up to the number of samples
+-- the fields of each verb, up to the number of samples; they are the same in both modes
 abbrev pub kindsOf : Verb → List ℕ
 kindsOf Transform = 119 ∷ 119 ∷ []
-kindsOf Quantise = 99 ∷ 119 ∷ 105 ∷ 120 ∷ 105 ∷ 105 ∷ costKinds
-kindsOf SubBlock = 119 ∷ 105 ∷ 105 ∷ 120 ∷ 105 ∷ 120 ∷ 105 ∷ 120 ∷ 105 ∷ 105 ∷ costKinds
+kindsOf (Quantise m) = 99 ∷ 119 ∷ 105 ∷ 120 ∷ 105 ∷ 105 ∷ costKinds
+kindsOf (SubBlock m) = 119 ∷ 105 ∷ 105 ∷ 120 ∷ 105 ∷ 120 ∷ 105 ∷ 120 ∷ 105 ∷ 105 ∷ costKinds
 
 -- no field is above its limit
 abbrev pub Limited : List ℕ → List ℕ → Type 0
@@ -92,13 +99,13 @@ abbrev pub costsAt : ℕ → List ℕ → Costs
 costsAt i f = record { run = eightAt i f; level = eightAt (i + 8) f; last = fourAt (i + 16) f; cbf = eightAt (i + 20) f }
 
 -- the call of `quantise`: COMPONENT LOG2 QP LAMBDA INTRA_SLICE INTRA_CODED, COSTS
-abbrev pub quantiseBy : List ℤ → List ℕ → Quant
-quantiseBy samples f =
-    called samples (getD f 1 0) (componentBy (getD f 0 0)) (settingsAt 2 f) (yes (getD f 4 0)) (yes (getD f 5 0)) (costsAt 6 f)
+abbrev pub quantiseBy : Mode → List ℤ → List ℕ → Quant
+quantiseBy mode samples f =
+    calledIn mode samples (getD f 1 0) (componentBy (getD f 0 0)) (settingsAt 2 f) (yes (getD f 4 0)) (yes (getD f 5 0)) (costsAt 6 f)
 
 -- the call of `subblock`: LOG2 RUN, a QP and a LAMBDA each of Y, U and V, INTRA_SLICE INTRA_CODED, COSTS
-abbrev pub requestOf : List ℕ → Request
-requestOf f =
+abbrev pub requestOf : Mode → List ℕ → Request
+requestOf mode f =
     record {
       side = getD f 0 0;
       y = settingsAt 2 f;
@@ -108,4 +115,5 @@ requestOf f =
       slice = yes (getD f 8 0);
       coded = yes (getD f 9 0);
       costs = costsAt 10 f;
+      mode = mode;
     }

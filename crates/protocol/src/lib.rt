@@ -35,8 +35,8 @@ fn call(verb: Verb, room: &mut [i16], fields: &[u64; 40]) -> Reply
 {
     match verb {
         Verb::Transform => { of_transform(trans(room, fields[0] as usize, fields[1] as usize)) }
-        Verb::Quantise => of_quantise(quantise_by(room, fields)),
-        Verb::SubBlock => of_sub_block(sub_block_tq(room, request_of(fields))),
+        Verb::Quantise(mode) => of_quantise(quantise_by(room, fields, mode)),
+        Verb::SubBlock(mode) => of_sub_block(sub_block_tq(room, request_of(fields, mode))),
     }
 }
 

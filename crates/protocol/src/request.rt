@@ -9,6 +9,7 @@ use numerals::number::read_natural;
 use numerals::number::read_sample;
 use price::Costs;
 use price::Settings;
+use quantise::Mode;
 use quantise::QuantAnswer;
 use quantise::quant_nnz;
 use refusals::Component;
@@ -71,15 +72,15 @@ fn read_fields(line: &[u8], at: usize, kinds: &[u8], fields: &mut [u64; 40]) -> 
 
 // The fields of a verb before N:
 //   transform: LOG2W LOG2H
-//   quantise: COMPONENT LOG2 QP LAMBDA INTRA_SLICE INTRA_CODED, COSTS
-//   subblock: LOG2 RUN QPY LAMBDAY QPU LAMBDAU QPV LAMBDAV INTRA_SLICE INTRA_CODED, COSTS
+//   quantise, quantise-least: COMPONENT LOG2 QP LAMBDA INTRA_SLICE INTRA_CODED, COSTS
+//   subblock, subblock-least: LOG2 RUN QPY LAMBDAY QPU LAMBDAU QPV LAMBDAV INTRA_SLICE INTRA_CODED, COSTS
 pub fn read_head(verb: Verb, line: &[u8], at: usize, fields: &mut [u64; 40]) -> Place
     ensures { λ r. ⌜ Within r (kindsOf verb) (now (fields .exit)) ⌝ }
 {
     match verb {
         Verb::Transform => read_fields(line, at, b"ww", fields),
-        Verb::Quantise => { read_fields(line, at, b"cwixiiwwwwwwwwwwwwwwwwwwwwwwwwwwww", fields) }
-        Verb::SubBlock => {
+        Verb::Quantise(_) => { read_fields(line, at, b"cwixiiwwwwwwwwwwwwwwwwwwwwwwwwwwww", fields) }
+        Verb::SubBlock(_) => {
             read_fields(line, at, b"wiixixixiiwwwwwwwwwwwwwwwwwwwwwwwwwwww", fields)
         }
     }
@@ -181,11 +182,11 @@ fn costs_of(fields: &[u64; 40], i: usize) -> Costs
     }
 }
 
-// The call that `quantise` asks for.
-pub fn quantise_by(room: &mut [i16], fields: &[u64; 40]) -> QuantAnswer
+// The call that `quantise` asks for, and in the other mode `quantise-least`.
+pub fn quantise_by(room: &mut [i16], fields: &[u64; 40], mode: Mode) -> QuantAnswer
     requires { ⌜ getD (now fields) 2 0 ≤ 4294967295 ⌝ }
-    ensures answer { λ r. ⌜ paperOf r ≡ quantAnswer (quantiseBy (now (room .entry)) (now (fields .entry))) ⌝ }
-    ensures buffer { λ _. ⌜ now (room .exit) ≡ quantBuffer (quantiseBy (now (room .entry)) (now (fields .entry))) ⌝ }
+    ensures answer { λ r. ⌜ paperOf r ≡ quantAnswer (quantiseBy mode (now (room .entry)) (now (fields .entry))) ⌝ }
+    ensures buffer { λ _. ⌜ now (room .exit) ≡ quantBuffer (quantiseBy mode (now (room .entry)) (now (fields .entry))) ⌝ }
 {
     let settings = settings_of(fields, 2);
     let costs = costs_of(fields, 6);
@@ -197,13 +198,14 @@ pub fn quantise_by(room: &mut [i16], fields: &[u64; 40]) -> QuantAnswer
         fields[4] != 0,
         fields[5] != 0,
         costs,
+        mode,
     )
 }
 
-// What `subblock` asks the call for.
-pub fn request_of(fields: &[u64; 40]) -> Request
+// What `subblock` asks the call for, and in the other mode `subblock-least`.
+pub fn request_of(fields: &[u64; 40], mode: Mode) -> Request
     requires { ⌜ (getD (now fields) 1 0 ≤ 4294967295) × (getD (now fields) 2 0 ≤ 4294967295) × (getD (now fields) 4 0 ≤ 4294967295) × (getD (now fields) 6 0 ≤ 4294967295) ⌝ }
-    ensures { λ r. ⌜ r ≡ requestOf (now (fields .entry)) ⌝ }
+    ensures { λ r. ⌜ r ≡ requestOf mode (now (fields .entry)) ⌝ }
 {
     Request {
         side: fields[0] as usize,
@@ -214,5 +216,6 @@ pub fn request_of(fields: &[u64; 40]) -> Request
         slice: fields[8] != 0,
         coded: fields[9] != 0,
         costs: costs_of(fields, 10),
+        mode,
     }
 }

@@ -1,11 +1,12 @@
 // The verbs. Each keeps its meaning for good; one that is added has fields of its own, or those of another.
 use check::same;
+use quantise::Mode;
 ghost use Rattle.protocol.specs.Request.{Names};
 
 pub enum Verb {
     Transform,
-    Quantise,
-    SubBlock,
+    Quantise(Mode),
+    SubBlock(Mode),
 }
 
 pub enum Named {
@@ -20,10 +21,16 @@ pub fn read_verb(word: &[u8]) -> Named
         return Named::Is(Verb::Transform);
     }
     if same(word, b"quantise") {
-        return Named::Is(Verb::Quantise);
+        return Named::Is(Verb::Quantise(Mode::Walk));
+    }
+    if same(word, b"quantise-least") {
+        return Named::Is(Verb::Quantise(Mode::Least));
     }
     if same(word, b"subblock") {
-        return Named::Is(Verb::SubBlock);
+        return Named::Is(Verb::SubBlock(Mode::Walk));
+    }
+    if same(word, b"subblock-least") {
+        return Named::Is(Verb::SubBlock(Mode::Least));
     }
     Named::Malformed
 }

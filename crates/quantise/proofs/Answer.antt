@@ -35,7 +35,8 @@ use Rattle.quantise.specs.declared.Coded.{Coded}
 use Rattle.rule.specs.declared.scale.Scale.{Scale}
 use Rattle.rule.specs.declared.prices.Prices.{Prices}
 use Rattle.rule.specs.Rows.{rowsOf}
-use Rattle.quantise.specs.Block.{Quant, called, sideOf, area, scaleHere, shiftHere, lambdaHere, ruleOf, blockPlaces, scanned, places, isSkipped, largest, magnitudes, signs, laid, countOf, priceOf, quantised}
+use Rattle.quantise.specs.declared.Mode.{Mode}
+use Rattle.quantise.specs.Block.{Quant, calledIn, writtenIn, sideOf, area, scaleHere, shiftHere, lambdaHere, ruleOf, blockPlaces, scanned, places, isSkipped, largest, magnitudes, signs, laid, countOf, priceOf, quantised}
 use Rattle.quantise.specs.Call.{sideFault, qpFault, lambdaFault, costFault, lengthFault, sampleFault, largestHere, levelFault, priceFault, uncodedHere, distortionFault, quantFaults, quantVerdict, coded, refusedWith, quantAnswer, quantBuffer}
 use Rattle.rule.specs.Scale.{ScaleOf}
 use Rattle.rule.specs.Prices.{pricesOf, ruleBy}
@@ -80,13 +81,13 @@ made b e rate p =
       last = p .last;
     }
 
-module _ (B : List ℤ) (l : ℕ) (k : Component) (s : Settings) (i j : Bool) (t : Costs) where
+module _ (v : Mode) (B : List ℤ) (l : ℕ) (k : Component) (s : Settings) (i j : Bool) (t : Costs) where
   abbrev pub call : Quant
-  call = called B l k s i j t
+  call = calledIn v B l k s i j t
 
   -- ---- the first five faults
   pub side-test : (b : Bool) → outside 1 5 l ≡ b → sideFault .holds call ≡ b
-  unfolding sideFault called
+  unfolding sideFault calledIn
   side-test b e = rw e (twice b)
     where
       twice : (b : Bool) → (b || b) ≡ b
@@ -94,31 +95,31 @@ module _ (B : List ℤ) (l : ℕ) (k : Component) (s : Settings) (i j : Bool) (t
       twice false = refl
 
   side-right : 1 ≤ l → l ≤ 5 → sideFault .holds call ≡ false
-  unfolding sideFault called
+  unfolding sideFault calledIn
   side-right g h = rw (le-leb 1 l g, le-leb l 5 h)
 
   pub qp-high : 63 < s .qp → qpFault .holds call ≡ true
-  unfolding qpFault called
+  unfolding qpFault calledIn
   qp-high h = lt-ltb 63 (s .qp) h
 
   pub qp-right : s .qp ≤ 63 → qpFault .holds call ≡ false
-  unfolding qpFault called
+  unfolding qpFault calledIn
   qp-right h = le-ltb 63 (s .qp) h
 
   pub lambda-test : (b : Bool) → lambdaRefused (s .lambda) ≡ b → lambdaFault .holds call ≡ b
-  unfolding lambdaFault called
+  unfolding lambdaFault calledIn
   lambda-test b e = e
 
   pub cost-test : (b : Bool) → costRefused t ≡ b → costFault .holds call ≡ b
-  unfolding costFault called
+  unfolding costFault calledIn
   cost-test b e = e
 
   pub length-low : length B < 2 ^ l * 2 ^ l → lengthFault .holds call ≡ true
-  unfolding lengthFault called area
+  unfolding lengthFault calledIn area
   length-low h = lt-ltb (length B) (2 ^ l * 2 ^ l) h
 
   pub length-right : 2 ^ l * 2 ^ l ≤ length B → lengthFault .holds call ≡ false
-  unfolding lengthFault called area
+  unfolding lengthFault calledIn area
   length-right h = le-ltb (length B) (2 ^ l * 2 ^ l) h
 
   -- ---- a block that has its own buffer
@@ -141,12 +142,12 @@ module _ (B : List ℤ) (l : ℕ) (k : Component) (s : Settings) (i j : Bool) (t
     half-sum = omega arith
 
     pub scanned-here : scanned call ≡ inOrder side B
-    unfolding scanned blockPlaces called
+    unfolding scanned blockPlaces calledIn
     scanned-here = refl
 
     -- the quick skip
     pub skipped-here : isSkipped call ≡ not (some (λ z. leb (threshold i (shiftOf l (s .qp))) (scaled (scaleOf forward (s .qp)) z)) B)
-    unfolding isSkipped shiftHere sideOf places scanned blockPlaces scaleHere called
+    unfolding isSkipped shiftHere sideOf places scanned blockPlaces scaleHere calledIn
     skipped-here =
         let u = threshold i (shiftOf l (s .qp)) in
         let q = scaleOf forward (s .qp) in
@@ -159,7 +160,7 @@ module _ (B : List ℤ) (l : ℕ) (k : Component) (s : Settings) (i j : Bool) (t
 
     -- ---- the last four faults
     pub sample-here : (b : Bool) → some (λ z. eqℤ z (negsuc 32767)) B ≡ b → sampleFault .holds call ≡ b
-    unfolding sampleFault called area
+    unfolding sampleFault calledIn area
     sample-here b e = ap (some (λ z. eqℤ z (negsuc 32767))) (take-all (2 ^ l * 2 ^ l) B (omega arith)) ∙ e
 
     module _ (not-skipped : isSkipped call ≡ false) where
@@ -224,7 +225,7 @@ module _ (B : List ℤ) (l : ℕ) (k : Component) (s : Settings) (i j : Bool) (t
         none-at (p ∷ ps) (suc n) = none-at ps n
 
         cleared : laid (scan side side) (signs (inOrder side B) zeros) B ≡ replicate (length B) (pos 0)
-        unfolding zeros places scanned blockPlaces scaleHere called
+        unfolding zeros places scanned blockPlaces scaleHere calledIn
         cleared =
             ext-getD (pos 0) (laid (scan side side) vs B) (replicate (length B) (pos 0))
             (laid-length (scan side side) vs B ∙ sym (length-replicate (length B) (pos 0)))
@@ -254,7 +255,7 @@ module _ (B : List ℤ) (l : ℕ) (k : Component) (s : Settings) (i j : Bool) (t
                 ∙ nothing-signed (at (inOrder side B) n)
 
         pub skipped-answer : (quantAnswer call ≡ coded 0 0) × (quantBuffer call ≡ replicate (length B) (pos 0))
-        unfolding countOf quantised blockPlaces called zeros
+        unfolding countOf quantised blockPlaces calledIn zeros
         skipped-answer =
             let a = accepted-answer call no-fault in
             let n : countOf call ≡ 0 = ap nonzeros magnitudes-none ∙ count-none (places call) in (
@@ -268,11 +269,11 @@ module _ (B : List ℤ) (l : ℕ) (k : Component) (s : Settings) (i j : Bool) (t
     -- ---- the numbers by a scale
     module _ (g : Scale) (w : ScaleOf l (s .qp) g) where
       pub shift-here : shiftHere call ≡ g .shift
-      unfolding shiftHere sideOf called
+      unfolding shiftHere sideOf calledIn
       shift-here = ap (λ (n : ℕ). shiftOf n (s .qp)) half-sum ∙ sym (w .shift)
 
       pub places-here : places call ≡ placesBy g side B
-      unfolding places scanned blockPlaces scaleHere called
+      unfolding places scanned blockPlaces scaleHere calledIn
       places-here = ap (λ (q : ℕ). map (λ z. scaled q z) (inOrder side B)) (sym (w .q))
 
       -- M
@@ -290,7 +291,7 @@ module _ (B : List ℤ) (l : ℕ) (k : Component) (s : Settings) (i j : Bool) (t
 
       -- the rule
       pub rule-here : (p : Prices) → p ≡ pricesOf 32768 (lambdaHere call) t (rowsOf k j) → ruleOf call ≡ ruleBy p g
-      unfolding ruleOf ruleBy sideOf scaleHere called made pricesOf
+      unfolding ruleOf ruleBy sideOf scaleHere calledIn made pricesOf
       rule-here p e =
           let lambda = lambdaHere call in
           let v = pricesOf 32768 lambda t (rowsOf k j) in
@@ -323,17 +324,21 @@ module _ (B : List ℤ) (l : ℕ) (k : Component) (s : Settings) (i j : Bool) (t
       -- ---- a block without a fault
       module _ (hq : s .qp ≤ 63) (hl : lambdaRefused (s .lambda) ≡ false) (hc : costRefused t ≡ false) (no : isSkipped call ≡ false) (no-fault : None call (sampleFault ∷ levelFault ∷ priceFault ∷ distortionFault ∷ []))
           (p : Prices) (e : p ≡ pricesOf 32768 (lambdaHere call) t (rowsOf k j)) where
-        written-here : magnitudes call ≡ written (ruleBy p g) (placesBy g side B)
+        mode-here : call .mode ≡ v
+        unfolding calledIn
+        mode-here = refl
+
+        written-here : magnitudes call ≡ writtenIn v (ruleBy p g) (placesBy g side B)
         unfolding magnitudes
-        written-here = rw no (rw (rule-here p e, places-here))
+        written-here = rw no (rw (mode-here, rule-here p e, places-here))
 
         price-walked : priceOf call ≡ price (ruleOf call) (magnitudes call) (places call)
         unfolding priceOf
         price-walked = rw no
 
-        pub coded-answer : (after : List ℤ) (r : Coded) → CodedAs p g side B after r
+        pub coded-answer : (after : List ℤ) (r : Coded) → CodedAs v p g side B after r
             → (quantAnswer call ≡ coded (r .count) (r .price)) × (quantBuffer call ≡ after)
-        unfolding countOf quantised blockPlaces called
+        unfolding countOf quantised blockPlaces calledIn
         coded-answer after r c =
             let a = accepted-answer call (none-of-nine hq hl hc no-fault) in
             let n : countOf call ≡ r .count = ap nonzeros written-here ∙ sym (c .count) in
@@ -341,11 +346,11 @@ module _ (B : List ℤ) (l : ℕ) (k : Component) (s : Settings) (i j : Bool) (t
             price-walked
             ∙ ap (λ (R : Rule). price R (magnitudes call) (places call)) (rule-here p e)
             ∙ ap (λ (ms : List ℕ). price (ruleBy p g) ms (places call)) written-here
-            ∙ ap (price (ruleBy p g) (written (ruleBy p g) (placesBy g side B))) places-here
+            ∙ ap (price (ruleBy p g) (writtenIn v (ruleBy p g) (placesBy g side B))) places-here
             ∙ sym (c .price) in (
               a .0 ∙ ap (λ (y : ℕ). coded y (priceOf call)) n ∙ ap (coded (r .count)) x,
               a .1
                   ∙ ap (λ (ms : List ℕ). laid (scan side side) (signs (scanned call) ms) B) written-here
-                  ∙ ap (λ (zs : List ℤ). laid (scan side side) (signs zs (written (ruleBy p g) (placesBy g side B))) B) scanned-here
+                  ∙ ap (λ (zs : List ℤ). laid (scan side side) (signs zs (writtenIn v (ruleBy p g) (placesBy g side B))) B) scanned-here
                   ∙ sym (c .buffer),
             )

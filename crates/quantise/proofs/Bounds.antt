@@ -11,14 +11,14 @@ use lib.ListN.{take}
 use Rattle.refusals.specs.Faults.{accepted}
 use Rattle.price.specs.Costs.{InRange, entry, runRow, rate}
 use Rattle.price.specs.Price.{uncoded, price}
-use Rattle.price.specs.Walk.{written}
 use Rattle.price.specs.OnePass.{start, walk}
 use Rattle.price.proofs.Lambda.{lambda-below}
 use Rattle.price.proofs.Rates.{costs-in-range}
-use Rattle.price.proofs.Bounds.{walk-within, written-price-at-most-empty}
+use Rattle.price.proofs.Bounds.{walk-within}
 use Rattle.price.proofs.Promises.{nonzeros-at-most}
-use Rattle.quantise.specs.Block.{Quant, area, lambdaHere, ruleOf, places, isSkipped, magnitudes, countOf, priceOf}
+use Rattle.quantise.specs.Block.{Quant, area, lambdaHere, ruleOf, places, isSkipped, writtenIn, magnitudes, countOf, priceOf}
 use Rattle.quantise.specs.Call.{quantVerdict, uncodedHere}
+use Rattle.quantise.proofs.Modes.{price-at-most-empty}
 use Rattle.quantise.proofs.Accepted.{Accepted, no-fault}
 use Rattle.quantise.proofs.Promises.{magnitudes-count}
 
@@ -77,9 +77,9 @@ module _ (c : Quant) (ok : quantVerdict c ≡ accepted) where
   price-below = by (isSkipped c) refl
     where
       by : (t : Bool) → isSkipped c ≡ t
-          → cond t 0 (price (ruleOf c) (cond t (map (λ L. 0) (places c)) (written (ruleOf c) (places c))) (places c)) < 2 ^ 62
+          → cond t 0 (price (ruleOf c) (cond t (map (λ L. 0) (places c)) (writtenIn (c .mode) (ruleOf c) (places c))) (places c)) < 2 ^ 62
       by true e = omega arith
-      by false e = omega (arith, written-price-at-most-empty (ruleOf c) (places c), D-bound e, empty-bound)
+      by false e = omega (arith, price-at-most-empty (c .mode) (ruleOf c) (places c), D-bound e, empty-bound)
 
   pub count-below : countOf c ≤ area c
   unfolding countOf

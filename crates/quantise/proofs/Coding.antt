@@ -1,4 +1,4 @@
--- The levels of a block, by all that is proved of keeping, walking, cutting and signing: code leaves the block that the definition lays
+-- The levels of a block, by all that is proved of keeping, walking or searching, and signing: code leaves the block that the definition lays
 -- along the scan, and answers its count and its price. Assumes nothing.
 use mathlib.Core.Path.{_≡_, refl, sym, ap, subst, _∙_}
 use mathlib.Core.Logic.{⊎-elim}
@@ -21,19 +21,26 @@ use Rattle.price.specs.Level.{scaled, magnitude}
 use Rattle.price.specs.Rule.{Rule, isZero}
 use Rattle.price.specs.Price.{uncoded, nonzeros, price}
 use Rattle.price.specs.Walk.{walked, cutAt, cutOf, written}
+use Rattle.price.specs.Cheapest.{cheapest}
+use Rattle.price.specs.Search as search
 use Rattle.price.specs.OnePass.{Totals, start, walk}
 use Rattle.price.proofs.OnePass.{one-pass-cut, one-pass-price}
-use Rattle.price.proofs.Promises.{written-length, written-zero-or-m-or-m-1}
+use Rattle.price.proofs.Cheapest.{cheapest-allowed}
+use Rattle.price.proofs.Search.{found-is-cheapest, found-price}
+use Rattle.price.proofs.Lighter.{Lighter, lighter-price, lighter-cheapest}
 use Rattle.rule.specs.declared.scale.Scale.{Scale}
 use Rattle.rule.specs.declared.prices.Prices.{Prices}
-use Rattle.walk.specs.declared.Walk.{Walk}
-use Rattle.quantise.specs.Block.{signs}
 use Rattle.rule.specs.Prices.{Fine, ruleBy}
-use Rattle.rule.specs.Places.{keptPlaces, Scanned, Weighable, Standing}
-use Rattle.walk.specs.Walking.{totalsOf, Begins, CutOver}
-use Rattle.quantise.specs.Code.{keptOf, KeptAs, inOrder, placesBy, Codable, CodedAs}
+use Rattle.rule.specs.Places.{keptPlaces, Scanned, Weighable, Standing, Cleared}
+use Rattle.walk.specs.Walking.{totalsOf, CutOver}
+use Rattle.search.specs.Searching.{Findable, FoundOver}
+use Rattle.quantise.specs.declared.Mode.{Mode}
+use Rattle.quantise.specs.declared.Mode.the-variants as modes
+use Rattle.quantise.specs.Block.{writtenIn, signs}
+use Rattle.quantise.specs.Code.{keptOf, KeptAs, inOrder, placesBy, firstWalk, ChosenAs, Codable, CodedAs}
 use Rattle.walk.proofs.Steps.{allowed-below}
-use Rattle.quantise.proofs.Keeping.{kept-some, kept-places, same-walk, same-walked, kept-uncoded}
+use Rattle.quantise.proofs.Keeping.{kept-some, kept-places, same-walk, same-walked, kept-uncoded, kept-lighter}
+use Rattle.quantise.proofs.Modes.{length-written, zero-or-m-or-m-1}
 use Rattle.rule.proofs.Places.{same-count, everywhere, nothing-there}
 use Rattle.quantise.proofs.Signing.{same-block}
 
@@ -56,10 +63,11 @@ module _ (l : ℕ) (hi : l ≤ 5) where
         few = omega (arith, area-range 5 l hi, ap (λ (k : ℕ). k * k) e);
       }
 
--- ---- the walk begins with D and the flags
-abbrev pub firstWalk : Prices → ℕ → Walk
-firstWalk p d = record { base = d + p .coded; best = d + p .empty; cut = 0; prev = 1 }
+some-price : (x c y : ℕ) → search.some x ≡ search.plus c (search.some y) → x ≡ c + y
+unfolding search.plus
+some-price x c y e = cc
 
+-- ---- a block that refusals 6 to 9 leave
 module _ (p : Prices) (g : Scale) (side : ℕ) (block : List ℤ) (d : ℕ) (held : List ℕ) (sc : Scanned side held)
     (c : Codable p g side block d) (kept : List ℕ) (n : ℕ) (kept-as : KeptAs g block kept n) where
   abbrev r : Rule
@@ -116,12 +124,16 @@ module _ (p : Prices) (g : Scale) (side : ℕ) (block : List ℤ) (d : ℕ) (hel
   kept-left : uncoded r (keptPlaces g side kept) ≤ d
   kept-left = omega (arith, ap (uncoded r) places-are, kept-uncoded g (c .sound) p (c .modest) zs, c .is)
 
-  pub begins : Begins p g (firstWalk p d) side kept
-  begins =
+  pub findable : (levels : List ℕ) → length levels ≡ side * side → Cleared levels → Findable p g d side kept held levels n
+  findable levels e z =
       record {
+        scan = sc;
         weighable = weighable;
-        left = omega (arith, kept-left);
-        base = omega (arith, c .small, c .modest .coded);
+        left = kept-left;
+        small = c .small;
+        room = e;
+        cleared = z;
+        count = kept-as .count;
       }
 
   started : totalsOf (firstWalk p d) ≡ start r ps
@@ -137,22 +149,56 @@ module _ (p : Prices) (g : Scale) (side : ℕ) (block : List ℤ) (d : ℕ) (hel
   walked-block : walked r (isZero 1) (keptPlaces g side kept) ≡ walked r false ps
   walked-block = ap (walked r false) places-are ∙ same-walked g (c .sound) p (c .modest) false zs
 
+  -- what the walk leaves of what is kept
   module _ (levels : List ℕ) (x : ℕ) (o : CutOver p g (firstWalk p d) side kept levels x) where
-    ls : List ℕ
-    ls = written r ps
-
-    long : length ls ≡ side * side
-    unfolding ls
-    long = written-length r ps ∙ length-map zs (λ z. scaled (g .q) z) ∙ length-map (scan side side) (λ k. at block k) ∙ sc .full
-
-    standing : Standing side levels ls
-    unfolding ls written
-    standing =
+    walk-standing : Standing side levels (written r ps)
+    unfolding written
+    walk-standing =
         subst (Standing side levels)
         (ap (λ (w : Totals). cutAt (w .cut) (walked r (isZero 1) (keptPlaces g side kept))) over-block
         ∙ ap (λ (k : ℕ). cutAt k (walked r (isZero 1) (keptPlaces g side kept))) (one-pass-cut r ps)
         ∙ ap (cutAt (cutOf r ps)) walked-block)
         (o .levels)
+
+    walk-price : x ≡ price r (written r ps) ps
+    walk-price = o .price ∙ ap (λ (w : Totals). w .best) over-block ∙ one-pass-price r ps
+
+  -- what the search finds of what is kept
+  module _ (levels : List ℕ) (x : ℕ) (o : FoundOver p g d side kept levels x) where
+    ks : List ℕ
+    ks = keptPlaces g side kept
+
+    lighter : Lighter r ks ps
+    unfolding ks
+    lighter = subst (λ (l : List ℕ). Lighter r l ps) (sym places-are) (kept-lighter g (c .sound) p (c .modest) zs)
+
+    least-standing : Standing side levels (cheapest r ps)
+    unfolding ks
+    least-standing = subst (Standing side levels) (found-is-cheapest r ks ∙ lighter-cheapest r ks ps lighter) (o .levels)
+
+    least-price : x ≡ price r (cheapest r ps) ps
+    unfolding ks
+    least-price =
+        let e = some-price x (d - uncoded r ks) (price r (cheapest r ks) ks) (o .price ∙ ap (search.plus (d - uncoded r ks)) (found-price r ks)) in
+        let f = lighter-price r ks ps (cheapest r ks) lighter (cheapest-allowed r ks) in
+        omega (arith, e, f, kept-left, c .is, ap (λ (l : List ℕ). price r l ps) (lighter-cheapest r ks ps lighter))
+
+  module _ (mode : Mode) (levels : List ℕ) (x : ℕ) (o : ChosenAs mode p g d side kept levels x) where
+    ls : List ℕ
+    ls = writtenIn mode r ps
+
+    long : length ls ≡ side * side
+    unfolding ls
+    long = length-written mode r ps ∙ length-map zs (λ z. scaled (g .q) z) ∙ length-map (scan side side) (λ k. at block k) ∙ sc .full
+
+    chosen : (length levels ≡ side * side) × Standing side levels ls × (x ≡ price r ls ps)
+    unfolding ls
+    chosen = by mode o
+      where
+        by : (mode : Mode) → ChosenAs mode p g d side kept levels x
+            → (length levels ≡ side * side) × Standing side levels (writtenIn mode r ps) × (x ≡ price r (writtenIn mode r ps) ps)
+        by modes.Walk o = (o .room, walk-standing levels x o, walk-price levels x o)
+        by modes.Least o = (o .room, least-standing levels x o, least-price levels x o)
 
     small : (k : ℕ) → k < side * side → getD ls k 0 ≤ 32767
     unfolding ls ruleBy
@@ -162,18 +208,21 @@ module _ (p : Prices) (g : Scale) (side : ℕ) (block : List ℤ) (d : ℕ) (hel
         let e : getD ps k 0 ≡ scaled (g .q) (at block (getD (scan side side) k 0)) =
         map-at (pos 0) 0 (λ z. scaled (g .q) z) zs k (omega arith)
         ∙ ap (λ (z : ℤ). scaled (g .q) z) (map-at 0 (pos 0) (λ k. at block k) (scan side side) k (omega (arith, sc .full))) in
-        let a = allowed-below _ _ (written-zero-or-m-or-m-1 r ps k (omega arith)) in
+        let a = allowed-below _ _ (zero-or-m-or-m-1 mode r ps k (omega arith)) in
         omega (arith, c .fine (getD (scan side side) k 0) .level, ap (magnitude (g .shift)) e)
 
+    pub room-left : length levels ≡ side * side
+    room-left = chosen .0
+
     pub level-small : (k : ℕ) → getD levels k 0 ≤ 32767
-    level-small = everywhere side held sc ls long levels (o .room) standing (λ (a : ℕ). a ≤ 32767) (omega arith) small
+    level-small = everywhere side held sc ls long levels room-left (chosen .1) (λ (a : ℕ). a ≤ 32767) (omega arith) small
 
     pub coded-as : (after : List ℤ) (n : ℕ) → after ≡ signs block levels → n ≡ nonzeros levels
-        → CodedAs p g side block after (record { count = n; price = x })
+        → CodedAs mode p g side block after (record { count = n; price = x })
     unfolding ls
     coded-as after n e f =
         record {
-          buffer = e ∙ same-block side held sc ls long levels (o .room) standing block (c .room);
-          count = f ∙ same-count side held sc ls long levels (o .room) standing;
-          price = o .price ∙ ap (λ (w : Totals). w .best) over-block ∙ one-pass-price r ps;
+          buffer = e ∙ same-block side held sc ls long levels room-left (chosen .1) block (c .room);
+          count = f ∙ same-count side held sc ls long levels room-left (chosen .1);
+          price = chosen .2;
         }

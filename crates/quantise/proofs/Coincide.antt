@@ -13,7 +13,8 @@ use Rattle.price.specs.declared.Settings.{Settings}
 use Rattle.quantise.specs.declared.Coded.{Coded}
 use Rattle.quantise.specs.declared.QuantAnswer.{QuantAnswer}
 use Rattle.quantise.specs.declared.QuantAnswer.the-variants as answers
-use Rattle.quantise.specs.Block.{called}
+use Rattle.quantise.specs.declared.Mode.{Mode}
+use Rattle.quantise.specs.Block.{calledIn}
 use Rattle.quantise.specs.Call.{quantAnswer, quantBuffer, paperOf}
 
 -- a count and a price make one answer
@@ -30,9 +31,9 @@ tells (answers.Refused w k) (answers.Refused x j) e =
     let g : k ≡ j = component-tells k j (cc) in
     cc
 
-module _ (block : List ℤ) (l : ℕ) (k : Component) (s : Settings) (slice coded : Bool) (t : Costs) where
+module _ (mode : Mode) (block : List ℤ) (l : ℕ) (k : Component) (s : Settings) (slice coded : Bool) (t : Costs) where
   pub quant-fixed : (r₁ r₂ : QuantAnswer) (b₁ b₂ : List ℤ)
-      → paperOf r₁ ≡ quantAnswer (called block l k s slice coded t) → b₁ ≡ quantBuffer (called block l k s slice coded t)
-      → paperOf r₂ ≡ quantAnswer (called block l k s slice coded t) → b₂ ≡ quantBuffer (called block l k s slice coded t)
+      → paperOf r₁ ≡ quantAnswer (calledIn mode block l k s slice coded t) → b₁ ≡ quantBuffer (calledIn mode block l k s slice coded t)
+      → paperOf r₂ ≡ quantAnswer (calledIn mode block l k s slice coded t) → b₂ ≡ quantBuffer (calledIn mode block l k s slice coded t)
       → (r₁ ≡ r₂) × (b₁ ≡ b₂)
-  quant-fixed = coincide paperOf tells (quantAnswer (called block l k s slice coded t)) (quantBuffer (called block l k s slice coded t))
+  quant-fixed = coincide paperOf tells (quantAnswer (calledIn mode block l k s slice coded t)) (quantBuffer (calledIn mode block l k s slice coded t))

@@ -1,6 +1,7 @@
 -- Magnitudes whose m is 0 need not be kept: such a place is passed whatever stands there, so that the walk over what is kept is the
 -- walk over the block, and what is kept leaves no more of D. Assumes nothing.
 use mathlib.Core.Path.{_≡_, refl, sym, ap, subst, _∙_}
+use mathlib.Core.Logic.{inl, inr}
 use mathlib.Core.Bool.{Bool, true, false}
 use mathlib.Core.List.{List, [], _∷_, map}
 use Prim.Native.Nat.{ℕ, zero, suc, _+_, _-_, _*_, _/_, _^_, _≤_, _<_}
@@ -22,8 +23,8 @@ use Rattle.price.specs.Price.{uncoded}
 use Rattle.price.specs.Walk.{chosen, walked}
 use Rattle.price.specs.OnePass.{Totals, step, walk}
 use Rattle.price.proofs.Tail.{quiet-chosen}
-use Rattle.price.proofs.Level.{distortion-of-0}
 use Rattle.price.proofs.Bounds.{step-within}
+use Rattle.price.proofs.Lighter.{Stands, Lighter}
 use Rattle.rule.specs.declared.scale.Scale.{Scale}
 use Rattle.rule.specs.declared.prices.Prices.{Prices}
 use Rattle.rule.specs.Scale.{Sound}
@@ -31,6 +32,7 @@ use Rattle.rule.specs.Prices.{Modest, ruleBy, rateBy}
 use Rattle.rule.specs.Places.{keptPlaces, Scanned}
 use Rattle.quantise.specs.Code.{keptOf, inOrder}
 use Rattle.rule.proofs.Scaling.{magnitude-of-0}
+use Rattle.rule.proofs.Places.{nothing-uncoded}
 use Rattle.walk.proofs.Weighing.{quiet}
 
 pub kept-yes : (g : Scale) (z : ℤ) (a v : ℕ) → a ≡ natAbs z → g .least ≤ a → v ≡ a → v ≡ keptOf g z
@@ -71,10 +73,6 @@ module _ (g : Scale) (s : Sound g) where
       go false e = nothing (rw e (zero-mul (g .q))) (dropped (natAbs z) (leb-false (g .least) (natAbs z) e))
 
   module _ (p : Prices) (m : Modest p) where
-    nothing-uncoded : (ruleBy p g) .dist 0 0 ≡ 0
-    unfolding ruleBy
-    nothing-uncoded = distortion-of-0 (g .shift) (g .error) 0 ∙ ap (λ (x : ℕ). x / 2 ^ 20 * (x / 2 ^ 20)) (zero-mul (g .error))
-
     top-is : (L : ℕ) → (ruleBy p g) .top L ≡ magnitude (g .shift) L
     unfolding ruleBy
     top-is L = refl
@@ -99,7 +97,7 @@ module _ (g : Scale) (s : Sound g) where
         go (whole e) = ap (step (ruleBy p g) n w) e
         go (nothing e q) =
             ap (step (ruleBy p g) n w) e
-            ∙ quiet p g n w 0 (sym (top-is 0) ∙ none-top) (omega (arith, dist-is 0, nothing-uncoded))
+            ∙ quiet p g n w 0 (sym (top-is 0) ∙ none-top) (omega (arith, dist-is 0, nothing-uncoded p g))
             ∙ sym (quiet p g n w (scaled (g .q) z) q (omega (arith, dist-is (scaled (g .q) z))))
 
     same-chosen : (b : Bool) (z : ℤ) → chosen (ruleBy p g) b (keptOf g z * g .q) ≡ chosen (ruleBy p g) b (scaled (g .q) z)
@@ -141,12 +139,21 @@ module _ (g : Scale) (s : Sound g) where
       where
         go : Keeps z → (ruleBy p g) .dist (kept z) 0 ≤ (ruleBy p g) .dist (full z) 0
         go (whole e) = omega (arith, ap (λ (L : ℕ). (ruleBy p g) .dist L 0) e)
-        go (nothing e q) = omega (arith, ap (λ (L : ℕ). (ruleBy p g) .dist L 0) e, nothing-uncoded)
+        go (nothing e q) = omega (arith, ap (λ (L : ℕ). (ruleBy p g) .dist L 0) e, nothing-uncoded p g)
 
     pub kept-uncoded : (zs : List ℤ) → uncoded (ruleBy p g) (map kept zs) ≤ uncoded (ruleBy p g) (map full zs)
     unfolding uncoded
     kept-uncoded [] = omega arith
     kept-uncoded (z ∷ zs) = omega (arith, kept-less z, kept-uncoded zs)
+
+    -- what is kept stands for the block: the same place, or m is 0 at both
+    pub kept-lighter : (zs : List ℤ) → Lighter (ruleBy p g) (map kept zs) (map full zs)
+    kept-lighter [] = tt
+    kept-lighter (z ∷ zs) = (go (keeps z), kept-lighter zs)
+      where
+        go : Keeps z → Stands (ruleBy p g) (kept z) (full z)
+        go (whole e) = inl e
+        go (nothing e q) = inr (ap ((ruleBy p g) .top) e ∙ none-top, top-is (full z) ∙ q)
 
 -- the places of what is kept by rows
 pub kept-places : (g : Scale) (side : ℕ) (held : List ℕ) → Scanned side held → (block : List ℤ) (kept : List ℕ)

@@ -1,5 +1,6 @@
 pub mod Numbers
 pub mod Laid
+pub mod Modes
 pub mod Accepted
 pub mod Promises
 pub mod Bounds

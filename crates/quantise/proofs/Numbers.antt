@@ -12,7 +12,7 @@ use lib.Ieee.{Float, fin, nan}
 use Rattle.refusals.specs.declared.Component.the-variants.{Y, U, «V»}
 use Rattle.price.specs.declared.Costs.{Costs}
 use Rattle.price.specs.declared.Settings.{Settings}
-use Rattle.quantise.specs.Block.{Quant, called, isSkipped}
+use Rattle.quantise.specs.Block.{Quant, called, calledIn, isSkipped}
 use Rattle.quantise.specs.Call.{Outcome, coded, refusedWith, quantAnswer, quantBuffer}
 
 -- n, and -n
@@ -72,7 +72,7 @@ Numbers =
     × (isSkipped (small usual false (p 12 ∷ p 0 ∷ p 0 ∷ p 0 ∷ [])) ≡ false)
 
 pub numbers : Numbers
-unfolding called quantAnswer quantBuffer isSkipped
+unfolding calledIn quantAnswer quantBuffer isSkipped
 numbers = ((refl, refl), (refl, refl), (refl, refl), (refl, refl), (refl, refl), refl, (refl, refl), refl)
 
 -- what P5 to P12 let through
@@ -127,7 +127,7 @@ pub own :
     (called (p 10 ∷ m 40 ∷ p 40 ∷ p 7 ∷ []) 1 Y (at 4 (parts 32)) false true
     (tables (32768 ∷ 8192 ∷ 1 ∷ 0 ∷ 2 ∷ 0 ∷ 1 ∷ 8192 ∷ []) (0 ∷ 1 ∷ 2 ∷ 8192 ∷ 8192 ∷ 2 ∷ 8192 ∷ 65536 ∷ []) (1 ∷ 8192 ∷ 16384 ∷ 0 ∷ []) (8192 ∷ 0 ∷ 0 ∷ 0 ∷ 2 ∷ 65536 ∷ 2 ∷ 65536 ∷ [])))
     3 62390528 (p 1 ∷ m 2 ∷ p 2 ∷ p 0 ∷ [])
-unfolding called quantAnswer quantBuffer
+unfolding calledIn quantAnswer quantBuffer
 own = ((refl, refl), (refl, refl), (refl, refl), (refl, refl), (refl, refl), (refl, refl), (refl, refl), (refl, refl), (refl, refl), (refl, refl))
 
 -- several faults at once: the first of the list decides, and names the component where it belongs to one
@@ -147,5 +147,5 @@ pub order :
     × Refuses (called (m 32768 ∷ p 0 ∷ p 0 ∷ p 0 ∷ []) 1 U (at 63 usual) true true (flat 1048576)) 6 1
     × Gives (called (p 0 ∷ p 0 ∷ p 0 ∷ p 0 ∷ m 32768 ∷ []) 1 U (at 63 usual) true true (flat 1048576)) 0 0
     (p 0 ∷ p 0 ∷ p 0 ∷ p 0 ∷ m 32768 ∷ [])
-unfolding called quantAnswer quantBuffer
+unfolding calledIn quantAnswer quantBuffer
 order = ((refl, refl), (refl, refl), (refl, refl), (refl, refl), (refl, refl), (refl, refl), (refl, refl), (refl, refl))

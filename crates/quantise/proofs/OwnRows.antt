@@ -11,6 +11,7 @@ use Rattle.price.specs.declared.Costs.{Costs}
 use Rattle.price.specs.declared.Settings.{Settings}
 use Rattle.price.specs.Costs.{Rows, entry, runRow, rate}
 use Rattle.rule.specs.Rows.{rowsOf}
+use Rattle.quantise.specs.declared.Mode.{Mode}
 use Rattle.quantise.specs.Block.{Quant, coding, scaleHere, shiftHere, sideOf, lambdaHere, ruleOf, blockPlaces, scanned, places, isSkipped, magnitudes, countOf, priceOf, quantised}
 
 -- the pair of a row is the same
@@ -30,10 +31,10 @@ rate-same sign rows a b same z zero = same .run z .1
 rate-same sign rows a b same z (suc zero) = rw (same .run z .0, same .level .0)
 rate-same sign rows a b same z (suc (suc n)) = rw (same .run z .0, same .level .1, same .further .0, same .further .1)
 
-module _ (buffer : List ℤ) (lw lh : ℕ) (k : Component) (s : Settings) (slice coded : Bool) (a b : Costs)
+module _ (mode : Mode) (buffer : List ℤ) (lw lh : ℕ) (k : Component) (s : Settings) (slice coded : Bool) (a b : Costs)
     (same : SameRows (rowsOf k coded) a b) where
   abbrev by : Costs → Quant
-  by t = coding buffer lw lh k s slice coded t
+  by t = coding mode buffer lw lh k s slice coded t
 
   rule-same : ruleOf (by a) ≡ ruleOf (by b)
   unfolding ruleOf coding scaleHere shiftHere sideOf lambdaHere
@@ -55,9 +56,13 @@ module _ (buffer : List ℤ) (lw lh : ℕ) (k : Component) (s : Settings) (slice
   unfolding isSkipped shiftHere sideOf places scanned blockPlaces scaleHere coding
   skipped-same = refl
 
+  mode-same : by a .mode ≡ by b .mode
+  unfolding coding
+  mode-same = refl
+
   magnitudes-same : magnitudes (by a) ≡ magnitudes (by b)
   unfolding magnitudes
-  magnitudes-same = rw (rule-same, skipped-same, places-same)
+  magnitudes-same = rw (mode-same, rule-same, skipped-same, places-same)
 
   pub count-same : countOf (by a) ≡ countOf (by b)
   unfolding countOf
@@ -65,7 +70,7 @@ module _ (buffer : List ℤ) (lw lh : ℕ) (k : Component) (s : Settings) (slice
 
   pub price-same : priceOf (by a) ≡ priceOf (by b)
   unfolding priceOf
-  price-same = rw (rule-same, skipped-same, places-same)
+  price-same = rw (magnitudes-same, rule-same, skipped-same, places-same)
 
   pub levels-same : quantised (by a) ≡ quantised (by b)
   unfolding quantised scanned blockPlaces coding

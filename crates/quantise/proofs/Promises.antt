@@ -1,5 +1,5 @@
 -- Demand 3 of the call itself, over its buffer at entry and at exit: what a level is, that what is reported is the count and the price
--- of the levels left in the buffer, that no cut of the walk is cheaper, and which blocks are skipped.
+-- of the levels left in the buffer, and which blocks are skipped; then, by the mode, that no cut of the walk is cheaper, or no block at all.
 -- Assumes nothing.
 use mathlib.Core.Path.{_≡_, refl, sym, _∙_, ap, subst}
 use mathlib.Core.Logic.{_⊎_, inl, inr, ⊎-elim}
@@ -25,9 +25,15 @@ use Rattle.price.specs.Rule.{Allowed}
 use Rattle.price.specs.Price.{nonzeros, price}
 use Rattle.price.specs.Walk.{walked, cutAt, Cut, cutOf, written}
 use Rattle.price.proofs.Level.{signed-zero, signed-magnitude, signed-sign}
-use Rattle.price.proofs.Promises.{written-length, written-is-the-walk-cut, written-zero-or-m-or-m-1, written-no-dearer, empty-wins-then-earliest}
-use Rattle.quantise.specs.Block.{Quant, area, scaleHere, shiftHere, ruleOf, blockPlaces, scanned, places, isSkipped, magnitudes, signs, laid, countOf, priceOf, quantised}
+use Rattle.price.proofs.Promises.{written-is-the-walk-cut, written-no-dearer, empty-wins-then-earliest}
+use Rattle.price.proofs.Dictionary.{Before}
+use Rattle.price.proofs.Blocks.{Block}
+use Rattle.price.proofs.Cheapest.{none-cheaper, none-earlier, never-dearer-than-the-walk}
+use Rattle.quantise.specs.declared.Mode.{Mode}
+use Rattle.quantise.specs.declared.Mode.the-variants.{Walk, Least}
+use Rattle.quantise.specs.Block.{Quant, area, scaleHere, shiftHere, ruleOf, blockPlaces, scanned, places, isSkipped, writtenIn, magnitudes, signs, laid, countOf, priceOf, quantised}
 use Rattle.quantise.specs.Call.{Outcome, coded, quantVerdict, quantAnswer, quantBuffer}
+use Rattle.quantise.proofs.Modes.{length-written, zero-or-m-or-m-1}
 use Rattle.quantise.proofs.Laid.{laid-on-scan, surplus-kept}
 use Rattle.quantise.proofs.Accepted.{Accepted, no-fault}
 
@@ -91,9 +97,9 @@ module _ (c : Quant) (ok : quantVerdict c ≡ accepted) where
   unfolding magnitudes
   magnitudes-count = by (isSkipped c)
     where
-      by : (t : Bool) → length (cond t (map (λ L. 0) (places c)) (written (ruleOf c) (places c))) ≡ area c
+      by : (t : Bool) → length (cond t (map (λ L. 0) (places c)) (writtenIn (c .mode) (ruleOf c) (places c))) ≡ area c
       by true = length-map (places c) (λ L. 0) ∙ L-count
-      by false = written-length (ruleOf c) (places c) ∙ L-count
+      by false = length-written (c .mode) (ruleOf c) (places c) ∙ L-count
 
   scanned-at : (p : ℕ) → p < area c → at (scanned c) p ≡ at (c .buffer) (placeOf c p)
   unfolding scanned blockPlaces scanAt
@@ -138,11 +144,11 @@ module _ (c : Quant) (ok : quantVerdict c ≡ accepted) where
   unfolding quantAnswer
   answer-is = rw ok
 
-  -- ---- a walked block
+  -- ---- a block that is not skipped, in either mode
   module _ (walks : isSkipped c ≡ false) where
-    walked-magnitudes : magnitudes c ≡ written (ruleOf c) (places c)
+    written-magnitudes : magnitudes c ≡ writtenIn (c .mode) (ruleOf c) (places c)
     unfolding magnitudes
-    walked-magnitudes = rw walks
+    written-magnitudes = rw walks
 
     -- a level is 0 or has its coefficient's sign, with magnitude m or m - 1
     pub level-zero-or-signed-m-or-m-1 : (p : ℕ) → p < area c
@@ -152,24 +158,14 @@ module _ (c : Quant) (ok : quantVerdict c ≡ accepted) where
     level-zero-or-signed-m-or-m-1 p h =
         let a = getD (magnitudes c) p 0 in
         let m : Allowed (rounded c p) a =
-        subst (λ (l : List ℕ). Allowed (rounded c p) (getD l p 0)) (sym walked-magnitudes)
-        (subst (λ (L : ℕ). Allowed (magnitude (shiftHere c) L) (getD (written (ruleOf c) (places c)) p 0)) (L-at p h)
-        (written-zero-or-m-or-m-1 (ruleOf c) (places c) p (omega (arith, L-count)))) in
+        subst (λ (l : List ℕ). Allowed (rounded c p) (getD l p 0)) (sym written-magnitudes)
+        (subst (λ (L : ℕ). Allowed (magnitude (shiftHere c) L) (getD (writtenIn (c .mode) (ruleOf c) (places c)) p 0)) (L-at p h)
+        (zero-or-m-or-m-1 (c .mode) (ruleOf c) (places c) p (omega (arith, L-count)))) in
         rw (level-is p h) (level-of (at (c .buffer) (placeOf c p)) (rounded c p) a m)
 
-    -- the block left in the buffer is the walk, cut at 0 or behind a nonzero level
-    pub block-is-the-walk-cut :
-        (magnitudesIn c (quantBuffer c) ≡ cutAt (cutOf (ruleOf c) (places c)) (walked (ruleOf c) false (places c)))
-        × Cut (walked (ruleOf c) false (places c)) (cutOf (ruleOf c) (places c))
-    block-is-the-walk-cut =
-        let w = written-is-the-walk-cut (ruleOf c) (places c) in (read-back ∙ walked-magnitudes ∙ w .0, w .1)
-
     -- the price of the block left in the buffer
-    abbrev its-price : ℕ
+    abbrev pub its-price : ℕ
     its-price = price (ruleOf c) (magnitudesIn c (quantBuffer c)) (places c)
-
-    written-price : its-price ≡ price (ruleOf c) (written (ruleOf c) (places c)) (places c)
-    written-price = ap (λ (l : List ℕ). price (ruleOf c) l (places c)) (read-back ∙ walked-magnitudes)
 
     price-is : priceOf c ≡ price (ruleOf c) (magnitudes c) (places c)
     unfolding priceOf
@@ -183,15 +179,47 @@ module _ (c : Quant) (ok : quantVerdict c ≡ accepted) where
         ∙ ap (λ (n : ℕ). coded (nonzeros (magnitudesIn c (quantBuffer c))) n)
         (price-is ∙ ap (λ (l : List ℕ). price (ruleOf c) l (places c)) (sym read-back))
 
-    -- it is no dearer than the walk cut behind any nonzero level, or the empty block
-    pub block-no-dearer : (k : ℕ) → Cut (walked (ruleOf c) false (places c)) k
-        → its-price ≤ price (ruleOf c) (cutAt k (walked (ruleOf c) false (places c))) (places c)
-    block-no-dearer k h = rw written-price (written-no-dearer (ruleOf c) (places c) k h)
+    -- the block left in the buffer is the one that the mode writes
+    block-is : (v : Mode) → c .mode ≡ v → magnitudesIn c (quantBuffer c) ≡ writtenIn v (ruleOf c) (places c)
+    block-is v e = read-back ∙ written-magnitudes ∙ ap (λ (k : Mode). writtenIn k (ruleOf c) (places c)) e
 
-    -- at equal price the empty block wins, then the earliest cut
-    pub earlier-cuts-dearer : (k : ℕ) → Cut (walked (ruleOf c) false (places c)) k → k < cutOf (ruleOf c) (places c)
-        → its-price < price (ruleOf c) (cutAt k (walked (ruleOf c) false (places c))) (places c)
-    earlier-cuts-dearer k h l = rw written-price (empty-wins-then-earliest (ruleOf c) (places c) k h l)
+    block-price : (v : Mode) → c .mode ≡ v → its-price ≡ price (ruleOf c) (writtenIn v (ruleOf c) (places c)) (places c)
+    block-price v e = ap (λ (l : List ℕ). price (ruleOf c) l (places c)) (block-is v e)
+
+    -- ---- the walk's
+    module _ (mode : c .mode ≡ Walk) where
+      -- the block left in the buffer is the walk, cut at 0 or behind a nonzero level
+      pub block-is-the-walk-cut :
+          (magnitudesIn c (quantBuffer c) ≡ cutAt (cutOf (ruleOf c) (places c)) (walked (ruleOf c) false (places c)))
+          × Cut (walked (ruleOf c) false (places c)) (cutOf (ruleOf c) (places c))
+      block-is-the-walk-cut =
+          let w = written-is-the-walk-cut (ruleOf c) (places c) in (block-is Walk mode ∙ w .0, w .1)
+
+      -- it is no dearer than the walk cut behind any nonzero level, or the empty block
+      pub block-no-dearer : (k : ℕ) → Cut (walked (ruleOf c) false (places c)) k
+          → its-price ≤ price (ruleOf c) (cutAt k (walked (ruleOf c) false (places c))) (places c)
+      block-no-dearer k h = rw (block-price Walk mode) (written-no-dearer (ruleOf c) (places c) k h)
+
+      -- at equal price the empty block wins, then the earliest cut
+      pub earlier-cuts-dearer : (k : ℕ) → Cut (walked (ruleOf c) false (places c)) k → k < cutOf (ruleOf c) (places c)
+          → its-price < price (ruleOf c) (cutAt k (walked (ruleOf c) false (places c))) (places c)
+      earlier-cuts-dearer k h l = rw (block-price Walk mode) (empty-wins-then-earliest (ruleOf c) (places c) k h l)
+
+    -- ---- the cheapest of all
+    module _ (mode : c .mode ≡ Least) where
+      -- no block whose magnitudes are each 0, m or m - 1 is cheaper
+      pub no-block-cheaper : (ls : List ℕ) → Block (ruleOf c) (places c) ls → its-price ≤ price (ruleOf c) ls (places c)
+      no-block-cheaper ls b = rw (block-price Least mode) (none-cheaper (ruleOf c) (places c) ls b)
+
+      -- at equal price none comes earlier in dictionary order
+      pub no-block-earlier : (ls : List ℕ) → Block (ruleOf c) (places c) ls → price (ruleOf c) ls (places c) ≡ its-price
+          → Before (magnitudesIn c (quantBuffer c)) ls
+      no-block-earlier ls b e =
+          rw (block-is Least mode) (none-earlier (ruleOf c) (places c) ls b (e ∙ block-price Least mode))
+
+      -- it is never dearer than the walk's
+      pub never-dearer : its-price ≤ price (ruleOf c) (written (ruleOf c) (places c)) (places c)
+      never-dearer = rw (block-price Least mode) (never-dearer-than-the-walk (ruleOf c) (places c))
 
   -- ---- the surplus, and a skipped block
   pub surplus-unchanged : drop (area c) (quantBuffer c) ≡ drop (area c) (c .buffer)

@@ -24,7 +24,8 @@ use Rattle.price.specs.declared.Costs.{Costs}
 use Rattle.price.specs.declared.Settings.{Settings}
 use Rattle.price.specs.Level.{scaled, magnitude, threshold}
 use Rattle.price.specs.Price.{nonzeros}
-use Rattle.quantise.specs.Block.{Quant, called, area, scaleHere, shiftHere, lambdaHere, ruleOf, blockPlaces, scanned, places, isSkipped, largest, magnitudes, signs, laid, countOf, priceOf, quantised}
+use Rattle.quantise.specs.declared.Mode.{Mode}
+use Rattle.quantise.specs.Block.{Quant, calledIn, area, scaleHere, shiftHere, lambdaHere, ruleOf, blockPlaces, scanned, places, isSkipped, largest, magnitudes, signs, laid, countOf, priceOf, quantised}
 use Rattle.quantise.specs.Call.{sideFault, qpFault, lambdaFault, costFault, lengthFault, sampleFault, largestHere, levelFault, priceFault, uncodedHere, distortionFault, quantFaults, quantVerdict, quantAnswer, quantBuffer}
 
 -- values laid in front
@@ -36,21 +37,21 @@ laid-front (p ∷ ps) (v ∷ vs) l r h =
     ap (laid ps vs) (set-append-left l r p v (h 0 (omega arith)))
     ∙ laid-front ps vs (set l p v) r (λ n lt. omega (arith, h (suc n) (omega arith), length-set l p v))
 
-module _ (B : List ℤ) (l : ℕ) (k : Component) (s : Settings) (i j : Bool) (t : Costs) (hi : l ≤ 5) (room : 2 ^ l * 2 ^ l ≤ length B) where
+module _ (v : Mode) (B : List ℤ) (l : ℕ) (k : Component) (s : Settings) (i j : Bool) (t : Costs) (hi : l ≤ 5) (room : 2 ^ l * 2 ^ l ≤ length B) where
   abbrev n : ℕ
   n = 2 ^ l * 2 ^ l
 
   abbrev part : Quant
-  part = called (take n B) l k s i j t
+  part = calledIn v (take n B) l k s i j t
 
   abbrev all-of : Quant
-  all-of = called B l k s i j t
+  all-of = calledIn v B l k s i j t
 
   inside : (m : ℕ) → m < length (scan (2 ^ l) (2 ^ l)) → scanAt (2 ^ l) (2 ^ l) m < n
   inside m h = scan-inside (2 ^ l) (2 ^ l) (pow-pos l) (pow-pos l) m h
 
   scanned-same : scanned part ≡ scanned all-of
-  unfolding scanned blockPlaces called scanAt
+  unfolding scanned blockPlaces calledIn scanAt
   scanned-same =
       let sc = scan (2 ^ l) (2 ^ l) in
       ext-getD (pos 0) (map (λ p. at (take n B) p) sc) (map (λ p. at B p) sc)
@@ -62,19 +63,19 @@ module _ (B : List ℤ) (l : ℕ) (k : Component) (s : Settings) (i j : Bool) (t
       ∙ sym (map-at 0 (pos 0) (λ p. at B p) sc m q))
 
   places-same : places part ≡ places all-of
-  unfolding places scaleHere called
+  unfolding places scaleHere calledIn
   places-same = ap (map (λ z. scaled (scaleHere all-of) z)) scanned-same
 
   skipped-same : isSkipped part ≡ isSkipped all-of
-  unfolding isSkipped shiftHere called
+  unfolding isSkipped shiftHere calledIn
   skipped-same = ap (λ (ps : List ℕ). not (some (λ L. leb (threshold i (shiftHere all-of)) L) ps)) places-same
 
   largest-same : largestHere part ≡ largestHere all-of
-  unfolding largestHere shiftHere called
+  unfolding largestHere shiftHere calledIn
   largest-same = ap (largest (magnitude (shiftHere all-of))) places-same
 
   rule-same : ruleOf part ≡ ruleOf all-of
-  unfolding ruleOf shiftHere scaleHere lambdaHere called
+  unfolding ruleOf shiftHere scaleHere lambdaHere calledIn
   rule-same = refl
 
   uncoded-same : uncodedHere part ≡ uncodedHere all-of
@@ -82,11 +83,11 @@ module _ (B : List ℤ) (l : ℕ) (k : Component) (s : Settings) (i j : Bool) (t
   uncoded-same = rw (rule-same, places-same)
 
   lambda-same : lambdaHere part ≡ lambdaHere all-of
-  unfolding lambdaHere called
+  unfolding lambdaHere calledIn
   lambda-same = refl
 
   faults-same : Alike part all-of quantFaults
-  unfolding quantFaults sideFault qpFault lambdaFault costFault lengthFault sampleFault levelFault priceFault distortionFault area called
+  unfolding quantFaults sideFault qpFault lambdaFault costFault lengthFault sampleFault levelFault priceFault distortionFault area calledIn
   faults-same =
       next {f = sideFault} refl refl
       (next {f = qpFault} refl refl
@@ -102,9 +103,13 @@ module _ (B : List ℤ) (l : ℕ) (k : Component) (s : Settings) (i j : Bool) (t
   unfolding quantVerdict
   verdict-same = same-verdict part all-of quantFaults faults-same
 
+  mode-same : part .mode ≡ all-of .mode
+  unfolding calledIn
+  mode-same = refl
+
   magnitudes-same : magnitudes part ≡ magnitudes all-of
   unfolding magnitudes
-  magnitudes-same = rw (skipped-same, rule-same, places-same)
+  magnitudes-same = rw (mode-same, skipped-same, rule-same, places-same)
 
   count-same : countOf part ≡ countOf all-of
   unfolding countOf
@@ -112,14 +117,14 @@ module _ (B : List ℤ) (l : ℕ) (k : Component) (s : Settings) (i j : Bool) (t
 
   price-same : priceOf part ≡ priceOf all-of
   unfolding priceOf
-  price-same = rw (skipped-same, rule-same, places-same)
+  price-same = rw (magnitudes-same, skipped-same, rule-same, places-same)
 
   pub surplus-untested : quantAnswer part ≡ quantAnswer all-of
   unfolding quantAnswer
   surplus-untested = rw (verdict-same, count-same, price-same)
 
   quantised-same : quantised part ++ drop n B ≡ quantised all-of
-  unfolding quantised blockPlaces called scanAt
+  unfolding quantised blockPlaces calledIn scanAt
   quantised-same =
       let vs = signs (scanned all-of) (magnitudes all-of) in
       let sc = scan (2 ^ l) (2 ^ l) in
@@ -129,7 +134,7 @@ module _ (B : List ℤ) (l : ℕ) (k : Component) (s : Settings) (i j : Bool) (t
       ∙ ap (laid sc vs) (take-append-drop n B)
 
   pub surplus-carried : quantBuffer part ++ drop n B ≡ quantBuffer all-of
-  unfolding quantBuffer called
+  unfolding quantBuffer calledIn
   surplus-carried = ap (λ (v : Verdict). ifAccepted v (quantised part) (take n B) ++ drop n B) verdict-same ∙ go (quantVerdict all-of)
     where
       go : (v : Verdict) → ifAccepted v (quantised part) (take n B) ++ drop n B ≡ ifAccepted v (quantised all-of) B

@@ -1,4 +1,4 @@
--- What becomes of the coefficients of a block: the quick skip or the walk, the levels, the count and the price. It is all in
+-- What becomes of the coefficients of a block: the quick skip, or the block that its mode writes, the levels, the count and the price. It is all in
 -- scan order, over the rule that the call's inputs make; specs/Call.antt says which calls are accepted.
 use mathlib.Core.Bool.{Bool, not, cond}
 use mathlib.Core.List.{List, [], _∷_, map}
@@ -19,11 +19,15 @@ use Rattle.price.specs.Costs.{Rows, entry, rate}
 use Rattle.price.specs.Rule.{Rule}
 use Rattle.price.specs.Price.{uncoded, nonzeros, price}
 use Rattle.price.specs.Walk.{written}
+use Rattle.price.specs.Cheapest.{cheapest}
 use Rattle.rule.specs.Rows.{rowsOf}
+use Rattle.quantise.specs.declared.Mode.{Mode}
+use Rattle.quantise.specs.declared.Mode.the-variants.{Walk, Least}
 
 -- the inputs of a call: a buffer that begins with the coefficients of a block by rows, the log2 sides of the block, the component
--- that the call is told, and what the block is coded by. The last three are no inputs in document 01, which fixes them.
+-- that the call is told, and what the block is coded by. The mode and the last three are no inputs in document 01, which fixes them.
 pub record Quant : Type 0 where
+  pub mode : Mode
   pub buffer : List ℤ
   pub lw : ℕ
   pub lh : ℕ
@@ -36,10 +40,11 @@ pub record Quant : Type 0 where
   pub rows : Rows
 
 -- what document 01 fixes: its scales, its rows, and 32768 for the sign
-unfoldable pub coding : List ℤ → (lw lh : ℕ) → Component → Settings → Bool → Bool → Costs → Quant
+unfoldable pub coding : Mode → List ℤ → (lw lh : ℕ) → Component → Settings → Bool → Bool → Costs → Quant
 unfolding rowsOf forward
-coding buffer lw lh k s intraSlice intraCoded t =
+coding mode buffer lw lh k s intraSlice intraCoded t =
     record {
+      mode = mode;
       buffer = buffer;
       lw = lw;
       lh = lh;
@@ -52,10 +57,14 @@ coding buffer lw lh k s intraSlice intraCoded t =
       rows = rowsOf k intraCoded;
     }
 
--- document 01's call is for square blocks
-unfoldable pub called : List ℤ → ℕ → Component → Settings → Bool → Bool → Costs → Quant
+-- a call for square blocks
+unfoldable pub calledIn : Mode → List ℤ → ℕ → Component → Settings → Bool → Bool → Costs → Quant
 unfolding coding
-called buffer l k s intraSlice intraCoded t = coding buffer l l k s intraSlice intraCoded t
+calledIn mode buffer l k s intraSlice intraCoded t = coding mode buffer l l k s intraSlice intraCoded t
+
+-- document 01's call, which walks
+abbrev pub called : List ℤ → ℕ → Component → Settings → Bool → Bool → Costs → Quant
+called = calledIn Walk
 
 -- ---- the numbers of a call
 -- l: log2 of the side, half the sum of the two
@@ -124,13 +133,18 @@ largest m [] = 0
 largest m (L ∷ Ls) = max (m L) (largest m Ls)
 
 -- ---- what is written
+-- by the mode: the walk, cut where it is cheapest, or the cheapest block of all
+abbrev pub writtenIn : Mode → Rule → List ℕ → List ℕ
+writtenIn Walk r Ls = written r Ls
+writtenIn Least r Ls = cheapest r Ls
+
 -- the magnitudes: all 0 in a skipped block
 unfoldable pub magnitudes : Quant → List ℕ
-unfolding isSkipped places ruleOf written
+unfolding isSkipped places ruleOf written cheapest
 magnitudes c =
     let r = ruleOf c in
     let Ls = places c in
-    let w = written r Ls in
+    let w = writtenIn (c .mode) r Ls in
     cond (isSkipped c) (map (λ L. 0) Ls) w
 
 -- each with its coefficient's sign

@@ -3,7 +3,7 @@
 use mathlib.Core.Path.{_≡_}
 use mathlib.Core.Bool.{cond}
 use mathlib.Core.List.{List, map}
-use Prim.Native.Nat.{ℕ, _-_, _*_, _^_, _≤_, _<_}
+use Prim.Native.Nat.{ℕ, _+_, _-_, _*_, _^_, _≤_, _<_}
 use lib.Dec.{leb, eqb}
 use lib.ListN.{length, getD}
 use lib.IntN.{ℤ, negsuc, natAbs}
@@ -12,13 +12,17 @@ use Rattle.integers.specs.Tests.{some, eqℤ}
 use Rattle.tables.specs.Scan.{scan}
 use Rattle.price.specs.Level.{scaled, distortion}
 use Rattle.price.specs.Price.{uncoded, nonzeros, price}
-use Rattle.price.specs.Walk.{written}
 use Rattle.rule.specs.declared.scale.Scale.{Scale}
 use Rattle.rule.specs.declared.prices.Prices.{Prices}
 use Rattle.rule.specs.Scale.{Sound}
 use Rattle.rule.specs.Prices.{Modest, Fine, ruleBy}
+use Rattle.walk.specs.declared.Walk.{Walk}
+use Rattle.walk.specs.Walking.{CutOver}
+use Rattle.search.specs.Searching.{FoundOver}
 use Rattle.quantise.specs.declared.Coded.{Coded}
-use Rattle.quantise.specs.Block.{signs, laid}
+use Rattle.quantise.specs.declared.Mode.{Mode}
+use Rattle.quantise.specs.declared.Mode.the-variants as modes
+use Rattle.quantise.specs.Block.{writtenIn, signs, laid}
 
 -- ---- the coefficients of a block, by rows
 -- the largest |c|, by which also shows whether some coefficient is -32768
@@ -57,6 +61,15 @@ pub record KeptAs (g : Scale) (block : List ℤ) (kept : List ℕ) (r : ℕ) : T
   pub count : r ≡ nonzeros kept
 
 -- ---- the block written
+-- the walk's first totals
+abbrev pub firstWalk : Prices → ℕ → Walk
+firstWalk p d = record { base = d + p .coded; best = d + p .empty; cut = 0; prev = 1 }
+
+-- what is chosen of what is kept, by the mode
+abbrev pub ChosenAs : Mode → Prices → Scale → (d side : ℕ) → (kept after : List ℕ) → ℕ → Type 0
+ChosenAs modes.Walk p g d side kept after r = CutOver p g (firstWalk p d) side kept after r
+ChosenAs modes.Least p g d side kept after r = FoundOver p g d side kept after r
+
 -- the coefficients in scan order, and their L
 abbrev pub inOrder : ℕ → List ℤ → List ℤ
 inOrder side block = map (λ p. at block p) (scan side side)
@@ -74,8 +87,8 @@ pub record Codable (p : Prices) (g : Scale) (side : ℕ) (block : List ℤ) (d :
   pub is : d ≡ uncoded (ruleBy p g) (placesBy g side block)
   pub small : d ≤ 2 ^ 60
 
-pub record CodedAs (p : Prices) (g : Scale) (side : ℕ) (block after : List ℤ) (r : Coded) : Type 0 where
+pub record CodedAs (mode : Mode) (p : Prices) (g : Scale) (side : ℕ) (block after : List ℤ) (r : Coded) : Type 0 where
   pub buffer :
-      after ≡ laid (scan side side) (signs (inOrder side block) (written (ruleBy p g) (placesBy g side block))) block
-  pub count : r .count ≡ nonzeros (written (ruleBy p g) (placesBy g side block))
-  pub price : r .price ≡ price (ruleBy p g) (written (ruleBy p g) (placesBy g side block)) (placesBy g side block)
+      after ≡ laid (scan side side) (signs (inOrder side block) (writtenIn mode (ruleBy p g) (placesBy g side block))) block
+  pub count : r .count ≡ nonzeros (writtenIn mode (ruleBy p g) (placesBy g side block))
+  pub price : r .price ≡ price (ruleBy p g) (writtenIn mode (ruleBy p g) (placesBy g side block)) (placesBy g side block)

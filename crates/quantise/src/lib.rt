@@ -1,4 +1,5 @@
-// The quantiser of a square block of coefficients: the quick skip, or the walk cut where the block is cheapest.
+// The quantiser of a square block of coefficients: the quick skip, or by the mode the walk cut where it is cheapest, or the cheapest block
+// of all.
 use crate::distortion::uncoded;
 use crate::levels::code_levels;
 use crate::skip::clear;
@@ -23,7 +24,7 @@ ghost use Prim.Native.Nat.{_≤_, _*_, _^_};
 ghost use lib.ListN.{length};
 ghost use Rattle.price.specs.Lambda.{lambdaRefused};
 ghost use Rattle.price.specs.Costs.{costRefused};
-ghost use Rattle.quantise.specs.Block.{called};
+ghost use Rattle.quantise.specs.Block.{calledIn};
 ghost use Rattle.quantise.specs.Call.{paperOf, quantAnswer, quantBuffer};
 
 mod distortion;
@@ -34,6 +35,12 @@ pub mod skip;
 pub struct Coded {
     pub count: u32,
     pub price: u64,
+}
+
+// Which block is written: document 01's, or the cheapest of all whose magnitudes are 0, m or m - 1.
+pub enum Mode {
+    Walk,
+    Least,
 }
 
 pub enum QuantAnswer {
@@ -50,10 +57,11 @@ fn code_block(
     intra_slice: bool,
     intra_coded: bool,
     costs: Costs,
+    mode: Mode,
 ) -> QuantAnswer
     requires { ⌜ (1 ≤ «log2_side») × («log2_side» ≤ 5) × (settings .qp ≤ 63) × (lambdaRefused (settings .lambda) ≡ false) × (costRefused costs ≡ false) × (length (now block) ≡ 2 ^ «log2_side» * 2 ^ «log2_side») ⌝ }
-    ensures answer { λ r. ⌜ paperOf r ≡ quantAnswer (called (now (block .entry)) «log2_side» component settings «intra_slice» «intra_coded» costs) ⌝ }
-    ensures buffer { λ _. ⌜ now (block .exit) ≡ quantBuffer (called (now (block .entry)) «log2_side» component settings «intra_slice» «intra_coded» costs) ⌝ }
+    ensures answer { λ r. ⌜ paperOf r ≡ quantAnswer (calledIn mode (now (block .entry)) «log2_side» component settings «intra_slice» «intra_coded» costs) ⌝ }
+    ensures buffer { λ _. ⌜ now (block .exit) ≡ quantBuffer (calledIn mode (now (block .entry)) «log2_side» component settings «intra_slice» «intra_coded» costs) ⌝ }
 {
     let threshold = skip_threshold(log2_side, settings.qp, intra_slice);
     if !is_walked(block, tables::scales::scale(settings.qp), threshold) {
@@ -78,7 +86,7 @@ fn code_block(
         return QuantAnswer::Refused(Refusal::Distortion, component);
     }
     let p = prices_of(costs, contexts_of(component, intra_coded), lambda);
-    QuantAnswer::Coded(code_levels(block, log2_side, p, g, d))
+    QuantAnswer::Coded(code_levels(block, log2_side, p, g, d, mode))
 }
 
 // evce_quant_nnz for a square block of side 2^log2_side: the levels in place of the coefficients, their count and their price.
@@ -90,9 +98,10 @@ pub fn quant_nnz(
     intra_slice: bool,
     intra_coded: bool,
     costs: Costs,
+    mode: Mode,
 ) -> QuantAnswer
-    ensures answer { λ r. ⌜ paperOf r ≡ quantAnswer (called (now (block .entry)) «log2_side» component settings «intra_slice» «intra_coded» costs) ⌝ }
-    ensures buffer { λ _. ⌜ now (block .exit) ≡ quantBuffer (called (now (block .entry)) «log2_side» component settings «intra_slice» «intra_coded» costs) ⌝ }
+    ensures answer { λ r. ⌜ paperOf r ≡ quantAnswer (calledIn mode (now (block .entry)) «log2_side» component settings «intra_slice» «intra_coded» costs) ⌝ }
+    ensures buffer { λ _. ⌜ now (block .exit) ≡ quantBuffer (calledIn mode (now (block .entry)) «log2_side» component settings «intra_slice» «intra_coded» costs) ⌝ }
 {
     if no_side(log2_side) {
         return QuantAnswer::Refused(Refusal::Side, Component::Y);
@@ -119,5 +128,6 @@ pub fn quant_nnz(
         intra_slice,
         intra_coded,
         costs,
+        mode,
     )
 }

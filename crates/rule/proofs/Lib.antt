@@ -3,3 +3,4 @@ pub mod Squaring
 pub mod Pricing
 pub mod Offering
 pub mod Places
+pub mod Filling

@@ -1,10 +1,10 @@
 -- Magnitudes kept by rows, in scan order: each scan place is met once, so that counts don't depend on the order and what holds along the
--- scan holds everywhere. Where nothing is kept m is 0. Assumes nothing.
-use mathlib.Core.Path.{_≡_, sym, ap, subst, _∙_}
+-- scan holds everywhere. Where nothing is kept m is 0, and no distortion; where something is, L fits. Assumes nothing.
+use mathlib.Core.Path.{_≡_, refl, sym, ap, subst, _∙_}
 use mathlib.Core.Logic.{⊎-elim}
 use mathlib.Core.List.{List, map}
-use Prim.Native.Nat.{ℕ, _+_, _-_, _*_, _≤_, _<_}
-use native.Mathlib.Nat.{zero-mul}
+use Prim.Native.Nat.{ℕ, zero, suc, _+_, _-_, _*_, _/_, _^_, _≤_, _<_}
+use native.Mathlib.Nat.{zero-mul, mul-le-mul-left}
 use native.Mathlib.Omega.{arith}
 use lib.ListN.{length, getD, drop, length-map, List·getD-eq-default}
 use lib.Seq.{ext-getD, take-all, getD-drop}
@@ -17,10 +17,13 @@ use Rattle.tables.proofs.OneToOne.{scan-inside, scan-apart}
 use Rattle.tables.proofs.Order.{scan-hit, scan-over}
 use Rattle.price.specs.Level.{magnitude}
 use Rattle.price.specs.Price.{nonzeros}
+use Rattle.price.proofs.Level.{distortion-of-0}
 use Rattle.price.proofs.Counting.{ones, nonzeros-over, nonzeros-next, some-left, none-left}
 use Rattle.rule.specs.declared.scale.Scale.{Scale}
+use Rattle.rule.specs.declared.prices.Prices.{Prices}
 use Rattle.rule.specs.Scale.{Sound}
-use Rattle.rule.specs.Places.{keptAt, inScan, keptFrom, keptPlaces, Scanned, Standing}
+use Rattle.rule.specs.Prices.{ruleBy}
+use Rattle.rule.specs.Places.{keptAt, inScan, keptFrom, keptPlaces, Scanned, Weighable, Standing}
 use Rattle.rule.proofs.Scaling.{magnitude-of-0}
 
 -- ---- levels that stand for ls
@@ -99,3 +102,14 @@ module _ (side : ℕ) (held : List ℕ) (sc : Scanned side held) where
 pub nothing-there : (g : Scale) → Sound g → (a : ℕ) → a ≡ 0 → magnitude (g .shift) (a * g .q) ≡ 0
 nothing-there g s a e =
     ap (magnitude (g .shift)) (ap (λ (b : ℕ). b * g .q) e ∙ zero-mul (g .q)) ∙ magnitude-of-0 (g .shift) (omega (arith, s .low))
+
+pub nothing-uncoded : (p : Prices) (g : Scale) → (ruleBy p g) .dist 0 0 ≡ 0
+unfolding ruleBy
+nothing-uncoded p g = distortion-of-0 (g .shift) (g .error) 0 ∙ ap (λ (x : ℕ). x / 2 ^ 20 * (x / 2 ^ 20)) (zero-mul (g .error))
+
+pub some-kept : (a : ℕ) → (a ≡ 0 → ⊥) → 1 ≤ a
+some-kept zero h = absurd (h refl)
+some-kept (suc a) h = omega arith
+
+pub product-small : (p : Prices) (g : Scale) (side : ℕ) (kept : List ℕ) → Weighable p g side kept → (k : ℕ) → getD kept k 0 * g .q ≤ 2 ^ 49
+product-small p g side kept w k = omega (arith, w .fine k .near, mul-le-mul-left (getD kept k 0 * g .q) (w .sound .some-error))

@@ -38,7 +38,7 @@ behind s l = drop (start «V» s + area «V» s) l
 -- the quantiser's call on what the transform alone leaves of a component's stretch
 abbrev pub quantAfter : Component → SubBlock → Quant
 quantAfter k s =
-    coding (transBuffer (transOf k s)) (sideOf k (s .lw)) (sideOf k (s .lh)) k (settingsOf k s) (s .intraSlice) (s .intraCoded) (s .costs)
+    coding (s .mode) (transBuffer (transOf k s)) (sideOf k (s .lw)) (sideOf k (s .lh)) k (settingsOf k s) (s .intraSlice) (s .intraCoded) (s .costs)
 
 -- ---- where the stretches stand
 double : (l : ℕ) → 1 ≤ l → 2 ^ l ≡ 2 * 2 ^ (l - 1)
@@ -132,7 +132,7 @@ module _ (s : SubBlock) (ok : subBlockVerdict s ≡ accepted) where
     unfolding transOf places quantOf
     after-is =
         ap
-        (λ (b : List ℤ). coding b (sideOf k (s .lw)) (sideOf k (s .lh)) k (settingsOf k s) (s .intraSlice) (s .intraCoded) (s .costs))
+        (λ (b : List ℤ). coding (s .mode) b (sideOf k (s .lw)) (sideOf k (s .lh)) k (settingsOf k s) (s .intraSlice) (s .intraCoded) (s .costs))
         (block-leaves (transOf k s) wide high fills (residuals-tame s (early .buffer) k run))
 
     quantiser-accepts : quant.quantVerdict (quantOf k s) ≡ accepted

@@ -30,6 +30,7 @@ pub record SameLumaCosts (a b : Costs) : Type 0 where
 
 -- of the run mask only bit 0 counts, and of the buffer only luma's stretch
 pub record SameLuma (s t : SubBlock) : Type 0 where
+  pub mode : s .mode ≡ t .mode
   pub lw : s .lw ≡ t .lw
   pub lh : s .lh ≡ t .lh
   pub settings : s .y ≡ t .y
@@ -64,13 +65,13 @@ module _ (s t : SubBlock) (same : SameLuma s t) where
 
   -- luma's call by the cost tables of either
   abbrev by : Costs → Quant
-  by c = coding luma (t .lw) (t .lh) Y (t .y) (t .intraSlice) (t .intraCoded) c
+  by c = coding (t .mode) luma (t .lw) (t .lh) Y (t .y) (t .intraSlice) (t .intraCoded) c
 
   moved : quantOf Y s ≡ by (s .costs)
   unfolding quantOf transOf
   moved =
       λ i.
-      coding (coefficients (same .residuals i) (same .lw i) (same .lh i)) (same .lw i) (same .lh i) Y (same .settings i) (same .slice i)
+      coding (same .mode i) (coefficients (same .residuals i) (same .lw i) (same .lh i)) (same .lw i) (same .lh i) Y (same .settings i) (same .slice i)
       (same .coded i)
       (s .costs)
 
@@ -88,17 +89,17 @@ module _ (s t : SubBlock) (same : SameLuma s t) where
   counts : countOf (quantOf Y s) ≡ countOf (quantOf Y t)
   counts =
       luma-by countOf
-      (own.count-same luma (t .lw) (t .lh) Y (t .y) (t .intraSlice) (t .intraCoded) (s .costs) (t .costs) rows)
+      (own.count-same (t .mode) luma (t .lw) (t .lh) Y (t .y) (t .intraSlice) (t .intraCoded) (s .costs) (t .costs) rows)
 
   prices : priceOf (quantOf Y s) ≡ priceOf (quantOf Y t)
   prices =
       luma-by priceOf
-      (own.price-same luma (t .lw) (t .lh) Y (t .y) (t .intraSlice) (t .intraCoded) (s .costs) (t .costs) rows)
+      (own.price-same (t .mode) luma (t .lw) (t .lh) Y (t .y) (t .intraSlice) (t .intraCoded) (s .costs) (t .costs) rows)
 
   written : quantised (quantOf Y s) ≡ quantised (quantOf Y t)
   written =
       luma-by quantised
-      (own.levels-same luma (t .lw) (t .lh) Y (t .y) (t .intraSlice) (t .intraCoded) (s .costs) (t .costs) rows)
+      (own.levels-same (t .mode) luma (t .lw) (t .lh) Y (t .y) (t .intraSlice) (t .intraCoded) (s .costs) (t .costs) rows)
 
   pub luma-share : share Y s ≡ share Y t
   unfolding share count price

@@ -22,6 +22,7 @@ use Rattle.subblock.proofs.Whole.{answer-whole}
 use Rattle.subblock.proofs.Alone.{leftIn, behind, left-is, refused-left, surplus-stays}
 
 pub record SameWhereRun (s t : SubBlock) : Type 0 where
+  pub mode : s .mode ≡ t .mode
   pub lw : s .lw ≡ t .lw
   pub lh : s .lh ≡ t .lh
   pub run : (k : Component) → runs k s ≡ runs k t
@@ -41,7 +42,7 @@ module _ (s t : SubBlock) (same : SameWhereRun s t) where
   unfolding quantOf transOf
   quant-same k h =
       λ i.
-      coding (coefficients (same .residuals k h i) (sideOf k (same .lw i)) (sideOf k (same .lh i))) (sideOf k (same .lw i)) (sideOf k (same .lh i)) k
+      coding (same .mode i) (coefficients (same .residuals k h i) (sideOf k (same .lw i)) (sideOf k (same .lh i))) (sideOf k (same .lw i)) (sideOf k (same .lh i)) k
       (same .settings k h i)
       (same .slice i)
       (same .coded i)

@@ -11,7 +11,7 @@ use lib.Ieee.{nan}
 use Rattle.price.specs.declared.Costs.{Costs}
 use Rattle.price.specs.declared.Settings.{Settings}
 use Rattle.quantise.proofs.Numbers.{p, m, parts, at, tables, flat, usual}
-use Rattle.subblock.specs.Call.{SubBlock, called, Share, Outcome, coded, refusedWith, subBlockAnswer, subBlockBuffer}
+use Rattle.subblock.specs.Call.{SubBlock, called, calledIn, Share, Outcome, coded, refusedWith, subBlockAnswer, subBlockBuffer}
 
 -- ---- three components, luma 4×4
 abbrev of : ℕ → ℕ → Share
@@ -63,7 +63,7 @@ pub components :
     × Gives (run 2) none (of 4 433324064) none (ry ++ (lu ++ (rv ++ behind)))
     × Gives (run 0) none none none (ry ++ (ru ++ (rv ++ behind)))
     × Gives (run 13) (of 13 3656155240) none (of 4 68263937) (ly ++ (ru ++ (lv ++ behind)))
-unfolding called subBlockAnswer subBlockBuffer
+unfolding calledIn subBlockAnswer subBlockBuffer
 components = ((refl, refl), (refl, refl), (refl, refl), (refl, refl), (refl, refl))
 
 -- ---- the order of the faults
@@ -112,5 +112,5 @@ pub order :
     × Refuses (faulty 2 (bad (p 0) (m 1024) (p 1024)) good good good 7 (flat 1048576)) 6 1
     × Refuses (faulty 2 wild high high good 4 (flat 1048576)) 6 2
     × Gives (faulty 2 wild high high high 248 (flat 1048576)) none none none wild
-unfolding called subBlockAnswer subBlockBuffer
+unfolding calledIn subBlockAnswer subBlockBuffer
 order = ((refl, refl), (refl, refl), (refl, refl), (refl, refl), (refl, refl), (refl, refl), (refl, refl), (refl, refl), (refl, refl), (refl, refl), (refl, refl), (refl, refl), (refl, refl), (refl, refl), (refl, refl))

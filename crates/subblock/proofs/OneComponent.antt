@@ -18,7 +18,7 @@ use Rattle.transform.specs.Coefficients.{coefficients}
 use Rattle.transform.specs.Call.{Trans, wild, places, sideFault, lengthFault, sampleFault, transFaults, transVerdict, transBuffer, transformed}
 use Rattle.transform.specs.Call as trans
 use Rattle.price.specs.declared.Settings.{Settings}
-use Rattle.quantise.specs.Block.{called}
+use Rattle.quantise.specs.Block.{calledIn}
 use Rattle.subblock.specs.declared.Request.{Request}
 use Rattle.subblock.specs.Call.{bit, sideOf}
 use Rattle.subblock.specs.Tested.{setOf}
@@ -77,9 +77,9 @@ module _ (k : Component) (q : Request) (r : List ℤ) (ready : Ready k q r) (run
 
   -- the call that the quantiser is given
   pub quant-called : (b : List ℤ) (l : ℕ) (s : Settings) → b ≡ transBuffer (trans.called r l l) → l ≡ sideIn k q → s ≡ setOf k q
-      → called b l k s (q .slice) (q .coded) (q .costs) ≡ quantIn k q r
-  unfolding called quantIn
+      → calledIn (q .mode) b l k s (q .slice) (q .coded) (q .costs) ≡ quantIn k q r
+  unfolding calledIn quantIn
   quant-called b l s eb el es =
-      ap (λ (x : List ℤ). called x l k s (q .slice) (q .coded) (q .costs)) (eb ∙ trans-leaves l el)
-      ∙ ap (λ (n : ℕ). called (coefficients r n n) n k s (q .slice) (q .coded) (q .costs)) el
-      ∙ ap (λ (x : Settings). called (coefficients r (sideIn k q) (sideIn k q)) (sideIn k q) k x (q .slice) (q .coded) (q .costs)) es
+      ap (λ (x : List ℤ). calledIn (q .mode) x l k s (q .slice) (q .coded) (q .costs)) (eb ∙ trans-leaves l el)
+      ∙ ap (λ (n : ℕ). calledIn (q .mode) (coefficients r n n) n k s (q .slice) (q .coded) (q .costs)) el
+      ∙ ap (λ (x : Settings). calledIn (q .mode) (coefficients r (sideIn k q) (sideIn k q)) (sideIn k q) k x (q .slice) (q .coded) (q .costs)) es

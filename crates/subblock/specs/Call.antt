@@ -17,14 +17,17 @@ use Rattle.transform.specs.Call as trans
 use Rattle.price.specs.declared.Costs.{Costs}
 use Rattle.price.specs.declared.Settings.{Settings}
 use Rattle.price.specs.Costs.{costRefused}
+use Rattle.quantise.specs.declared.Mode.{Mode}
+use Rattle.quantise.specs.declared.Mode.the-variants.{Walk}
 use Rattle.quantise.specs.Block.{Quant, coding, countOf, priceOf, quantised}
 use Rattle.quantise.specs.Call as quant
 use Rattle.subblock.specs.declared.Request.{Request}
 use Rattle.subblock.specs.declared.SubBlockAnswer.{SubBlockAnswer}
 use Rattle.subblock.specs.declared.SubBlockAnswer.the-variants.{Coded, Refused}
 
--- the inputs: the buffer, luma's log2 sides, each component's settings, the run mask, and what all three share
+-- the inputs: the mode, the buffer, luma's log2 sides, each component's settings, the run mask, and what all three share
 pub record SubBlock : Type 0 where
+  pub mode : Mode
   pub buffer : List ℤ
   pub lw : ℕ
   pub lh : ℕ
@@ -36,10 +39,11 @@ pub record SubBlock : Type 0 where
   pub intraCoded : Bool
   pub costs : Costs
 
--- document 01's call has one log2 side
-unfoldable pub called : List ℤ → ℕ → (y u v : Settings) → ℕ → Bool → Bool → Costs → SubBlock
-called buffer l y u v run intraSlice intraCoded t =
+-- a call with one log2 side
+unfoldable pub calledIn : Mode → List ℤ → ℕ → (y u v : Settings) → ℕ → Bool → Bool → Costs → SubBlock
+calledIn mode buffer l y u v run intraSlice intraCoded t =
     record {
+      mode = mode;
       buffer = buffer;
       lw = l;
       lh = l;
@@ -52,10 +56,14 @@ called buffer l y u v run intraSlice intraCoded t =
       costs = t;
     }
 
+-- document 01's call, which walks
+abbrev pub called : List ℤ → ℕ → (y u v : Settings) → ℕ → Bool → Bool → Costs → SubBlock
+called = calledIn Walk
+
 -- the same of a request, which holds all inputs but the buffer
 unfoldable pub requested : List ℤ → Request → SubBlock
-unfolding called
-requested buffer q = called buffer (q .side) (q .y) (q .u) (q .v) (q .run) (q .slice) (q .coded) (q .costs)
+unfolding calledIn
+requested buffer q = calledIn (q .mode) buffer (q .side) (q .y) (q .u) (q .v) (q .run) (q .slice) (q .coded) (q .costs)
 
 -- ---- the components
 -- bits 0, 1, 2 of the run mask are for Y, U, V; other bits mean nothing
@@ -100,7 +108,7 @@ unfoldable pub quantOf : Component → SubBlock → Quant
 unfolding transOf coefficients coding
 quantOf k s =
     let t = transOf k s in
-    coding (coefficients (t .buffer) (t .lw) (t .lh)) (t .lw) (t .lh) k (settingsOf k s) (s .intraSlice) (s .intraCoded) (s .costs)
+    coding (s .mode) (coefficients (t .buffer) (t .lw) (t .lh)) (t .lw) (t .lh) k (settingsOf k s) (s .intraSlice) (s .intraCoded) (s .costs)
 
 -- ---- the faults
 unfoldable pub sideFault : Fault SubBlock

@@ -32,7 +32,7 @@ sideIn k q = sideOf k (q .side)
 unfoldable pub quantIn : Component → Request → List ℤ → Quant
 unfolding coefficients coding
 quantIn k q r =
-    coding (coefficients r (sideIn k q) (sideIn k q)) (sideIn k q) (sideIn k q) k (setOf k q) (q .slice) (q .coded) (q .costs)
+    coding (q .mode) (coefficients r (sideIn k q) (sideIn k q)) (sideIn k q) (sideIn k q) k (setOf k q) (q .slice) (q .coded) (q .costs)
 
 -- the tests before it have passed
 pub record Ready (k : Component) (q : Request) (r : List ℤ) : Type 0 where

@@ -36,10 +36,11 @@ pub fn code_component(part: &mut [i16], q: Request, component: Component) -> Qua
         let l = side_of(q.side, component);
         let s = settings_of(q, component);
         let costs = q.costs;
+        let mode = q.mode;
         let t = trans(part, l, l);
         return match t {
             TransAnswer::Refused(why) => QuantAnswer::Refused(why, component),
-            TransAnswer::Accepted => quant_nnz(part, l, component, s, q.slice, q.coded, costs),
+            TransAnswer::Accepted => quant_nnz(part, l, component, s, q.slice, q.coded, costs, mode),
         };
     }
     QuantAnswer::Coded(Coded { count: 0, price: 0 })

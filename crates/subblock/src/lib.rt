@@ -8,6 +8,7 @@ use crate::faults::test_settings;
 use price::Costs;
 use price::Settings;
 use quantise::Coded;
+use quantise::Mode;
 use refusals::Component;
 use refusals::Refusal;
 ghost use mathlib.Core.Path.{_≡_};
@@ -21,7 +22,7 @@ mod component;
 mod faults;
 
 // All inputs of a call but its buffer: log2 of luma's side, each component's settings, the run mask, whether the slice is intra,
-// whether the block is intra-coded, and the cost tables.
+// whether the block is intra-coded, the cost tables, and which blocks are written.
 pub struct Request {
     pub side: usize,
     pub y: Settings,
@@ -31,6 +32,7 @@ pub struct Request {
     pub slice: bool,
     pub coded: bool,
     pub costs: Costs,
+    pub mode: Mode,
 }
 
 // What was coded of Y, U and V; 0 and 0 for a component that was not run.

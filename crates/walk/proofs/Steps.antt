@@ -4,18 +4,17 @@
 use mathlib.Core.Path.{_≡_, refl, sym, ap, subst, _∙_}
 use mathlib.Core.Logic.{_⊎_, inl, inr, ⊎-elim, _≢_}
 use mathlib.Core.Bool.{Bool, true, false, cond, _&&_}
-use mathlib.Core.List.{List, [], _∷_, map}
+use mathlib.Core.List.{List, [], _∷_}
 use Prim.Native.Nat.{ℕ, zero, suc, _+_, _-_, _*_, _≤_, _<_, _^_, max}
 use native.Mathlib.Omega.{arith}
 use native.Mathlib.Numerals.{add-one}
-use native.Mathlib.Nat.{mul-le-mul, mul-le-mul-left, zero-mul, eq-or-lt-of-le, not-suc-le-zero, le-of-suc-le-suc}
+use native.Mathlib.Nat.{mul-le-mul, eq-or-lt-of-le, not-suc-le-zero, le-of-suc-le-suc}
 use lib.Dec.{ltb, leb, eqb, leb·suc-suc}
-use lib.ListN.{length, getD, set, take, drop, length-set, length-map, length-drop}
+use lib.ListN.{length, getD, set, take, drop, length-set, length-drop}
 use lib.Seq.{getD-set-same, getD-set-other, getD-drop, drop-cons}
 use borrow.Author.Tests.{ltb-true, ltb-false, eqb-true, eqb-false, lt-ltb, le-ltb, le-leb, lt-leb}
 use Rattle.integers.proofs.Order.{below-or-not}
-use Rattle.integers.proofs.Lists.{map-at}
-use Rattle.tables.specs.Scan.{scan, scanAt}
+use Rattle.tables.specs.Scan.{scanAt}
 use Rattle.tables.proofs.OneToOne.{scan-inside, scan-apart}
 use Rattle.price.specs.Level.{magnitude, distortion}
 use Rattle.price.specs.Rule.{Rule, Allowed, isZero}
@@ -35,11 +34,8 @@ use Rattle.rule.specs.Places.{keptAt, keptFrom, keptPlaces, Scanned, Standing, 
 use Rattle.walk.specs.Walking.{totalsOf, passed, Ready, Begins, WalkedOver, CutBehind, CutOver}
 use Rattle.price.proofs.Counting.{ones, one-more, none-more}
 use Rattle.walk.proofs.Weighing.{quiet}
-use Rattle.rule.proofs.Places.{inside, apart, places-count, place-at, nothing-there, kept-in-all, kept-next, kept-inside, none-kept}
-
-pub some-kept : (a : ℕ) → (a ≡ 0 → ⊥) → 1 ≤ a
-some-kept zero h = absurd (h refl)
-some-kept (suc a) h = omega arith
+use Rattle.rule.proofs.Filling.{Filled, filled-none, filled-zero, filled-next, filled-all}
+use Rattle.rule.proofs.Places.{places-count, place-at, nothing-there, kept-in-all, kept-next, kept-inside, none-kept}
 
 -- one place more
 walk-next : (r : Rule) (m : ℕ) (w : Totals) (ps : List ℕ) (i : ℕ) → i < length ps
@@ -95,10 +91,6 @@ module _ (p : Prices) (g : Scale) (w₀ : Walk) (side : ℕ) (kept held : List �
       let y : n * (2 ^ 48 + r .more) ≤ 4096 * (2 ^ 48 + 2 ^ 48) = mul-le-mul (let k : n ≤ 4096 = omega (arith, sc .few) in k) (let k : 2 ^ 48 + r .more ≤ 2 ^ 48 + 2 ^ 48 = omega (arith, more-small) in k) in
       omega (arith, b .base)
 
-  pub product-small : (n : ℕ) → n < side * side → keptAt side kept n * g .q ≤ 2 ^ 49
-  product-small n h =
-      omega (arith, b .weighable .fine (scanAt side side n) .near, mul-le-mul-left (keptAt side kept n * g .q) (b .weighable .sound .some-error))
-
   by-dist : (L : ℕ) → r .dist L 0 ≡ distortion (g .shift) (g .error) L 0
   unfolding ruleBy
   by-dist L = refl
@@ -126,8 +118,7 @@ module _ (p : Prices) (g : Scale) (w₀ : Walk) (side : ℕ) (kept held : List �
     pub place : n ≤ side * side
     pub room : length levels ≡ side * side
     pub same : totalsOf w ≡ total n
-    pub done : (k : ℕ) → k < n → getD levels (scanAt side side k) 0 ≡ getD ls k 0
-    pub ahead : (k : ℕ) → n ≤ k → k < side * side → getD levels (scanAt side side k) 0 ≡ 0
+    pub standing : Filled side n levels ls
     pub ended : end ≤ n
     pub tail : (k : ℕ) → end ≤ k → k < n → getD ls k 0 ≡ 0
     pub rest : left ≡ keptFrom side kept n
@@ -139,8 +130,7 @@ module _ (p : Prices) (g : Scale) (w₀ : Walk) (side : ℕ) (kept held : List �
         place = omega arith;
         room = e;
         same = refl;
-        done = λ k h. absurd (not-suc-le-zero h);
-        ahead = λ k l h. z (scanAt side side k);
+        standing = filled-none side levels ls z;
         ended = omega arith;
         tail = λ k l h. absurd (not-suc-le-zero h);
         rest = q ∙ kept-in-all side kept held sc (b .weighable .room);
@@ -183,10 +173,7 @@ module _ (p : Prices) (g : Scale) (w₀ : Walk) (side : ℕ) (kept held : List �
           place = omega arith;
           room = i .room;
           same = s;
-          done =
-              below-next (λ (k : ℕ). getD levels (scanAt side side k) 0 ≡ getD ls k 0) (i .done)
-              (i .ahead n (omega arith) h ∙ sym l);
-          ahead = λ k m. i .ahead k (omega arith);
+          standing = filled-zero side levels ls n h l (i .standing);
           ended = omega (arith, i .ended);
           tail =
               λ k m lt. below-next (λ (k : ℕ). end ≤ k → getD ls k 0 ≡ 0) (λ j lt le. i .tail j le lt) (λ le. l) k lt m;
@@ -210,11 +197,7 @@ module _ (p : Prices) (g : Scale) (w₀ : Walk) (side : ℕ) (kept held : List �
             place = omega arith;
             room = length-set levels (scanAt side side n) (v .prev) ∙ i .room;
             same = stepped;
-            done =
-                below-next (λ (k : ℕ). getD (set levels (scanAt side side n) (v .prev)) (scanAt side side k) 0 ≡ getD ls k 0)
-                (λ k lt. other k (omega arith) (λ e. let z : ⊥ = omega arith in z) ∙ i .done k lt)
-                (getD-set-same levels (scanAt side side n) (v .prev) 0 (omega (arith, inside side held sc n h, i .room)) ∙ taken);
-            ahead = λ k m lt. other k lt (λ e. let z : ⊥ = omega arith in z) ∙ i .ahead k (omega arith) lt;
+            standing = filled-next side levels ls n h held sc (i .room) (v .prev) (sym taken) (i .standing);
             ended = ended-by (v .prev) f;
             tail = tail-by (v .prev) f taken;
             rest = omega (arith, rest-next, one-more (keptAt side kept n) some);
@@ -228,10 +211,6 @@ module _ (p : Prices) (g : Scale) (w₀ : Walk) (side : ℕ) (kept held : List �
           tail-by zero f t k m lt =
               below-next (λ (k : ℕ). end ≤ k → getD ls k 0 ≡ 0) (λ j lt le. i .tail j le lt) (λ le. sym t) k lt (omega arith)
           tail-by (suc a) f t k m lt = absurd (let z : ⊥ = omega arith in z)
-
-          other : (k : ℕ) → k < side * side → k ≢ n
-              → getD (set levels (scanAt side side n) (v .prev)) (scanAt side side k) 0 ≡ getD levels (scanAt side side k) 0
-          other k lt ne = getD-set-other levels (scanAt side side n) (scanAt side side k) (v .prev) 0 (λ e. ne (apart side held sc k n lt h e))
 
   behind-none : (k : ℕ) → side * side ≤ k → getD ls k 0 ≡ 0
   behind-none k h = lib.ListN.List·getD-eq-default ls 0 (omega (arith, length-walked r (isZero (w₀ .prev)) ps, places-count side held sc g kept))
@@ -262,8 +241,7 @@ module _ (p : Prices) (g : Scale) (w₀ : Walk) (side : ℕ) (kept held : List �
           best = ap (λ (t : Totals). t .best) (i .same) ∙ sym (stopped .0);
           cut = ap (λ (t : Totals). t .cut) (i .same) ∙ sym (stopped .1);
           room = i .room;
-          levels =
-              λ k l. ⊎-elim (λ (q : k < n). i .done k q) (λ (q : n ≤ k). i .ahead k q l ∙ sym (none-walked k q)) (below-or-not k n);
+          levels = filled-all side levels ls n none-walked (i .standing);
           within = omega (arith, i .ended, i .place);
           tail = λ k l. ⊎-elim (λ (q : k < n). i .tail k l q) (λ (q : n ≤ k). none-walked k q) (below-or-not k n);
         }

@@ -23,25 +23,25 @@ trans-requires c κs = search needs
 of-transform-requires : tie.Need-of-transform-requires
 of-transform-requires c κs = search needs
 
-enum-told-2 : tie.Need-enum-told-2
-enum-told-2 c = search needs
+enum-known-verb : tie.Need-enum-known-verb
+enum-known-verb c = search needs
 
 quantise-by-requires : tie.Need-quantise-by-requires
 quantise-by-requires c κs =
-    let s = c .before .before .before in
-    let of = subst (λ (v : Verb). Limited (kindsOf v) (s .args .fields .now)) (c .before .enum-told2 .given .1) (s .pre) in
+    let s = c .before .before .before .before in
+    let of = subst (λ (v : Verb). Limited (kindsOf v) (s .args .fields .now)) (c .before .before .verb .given .1) (s .pre) in
     of 2 (lit< tt)
 
 of-quantise-requires : tie.Need-of-quantise-requires
 of-quantise-requires c κs = search needs
 
-enum-told-3 : tie.Need-enum-told-3
-enum-told-3 c = search needs
+enum-known-verb-2 : tie.Need-enum-known-verb-2
+enum-known-verb-2 c = search needs
 
 request-of-requires : tie.Need-request-of-requires
 request-of-requires c κs =
-    let s = c .before .before .before in
-    let of = subst (λ (v : Verb). Limited (kindsOf v) (s .args .fields .now)) (c .before .enum-told3 .given .1) (s .pre) in
+    let s = c .before .before .before .before in
+    let of = subst (λ (v : Verb). Limited (kindsOf v) (s .args .fields .now)) (c .before .before .verb2 .given .1) (s .pre) in
     (of 1 (lit< tt), of 2 (lit< tt), of 4 (lit< tt), of 6 (lit< tt))
 
 sub-block-tq-requires : tie.Need-sub-block-tq-requires
@@ -77,10 +77,10 @@ call-spec =
     element-copy-out-trans-2
     trans-requires
     of-transform-requires
-    enum-told-2
+    enum-known-verb
     quantise-by-requires
     of-quantise-requires
-    enum-told-3
+    enum-known-verb-2
     request-of-requires
     sub-block-tq-requires
     of-sub-block-requires

@@ -16,7 +16,7 @@ use Rattle.price.specs.Level.{scaled}
 use Rattle.price.specs.Costs.{Rows}
 use Rattle.price.proofs.Rates.{costs-in-range}
 use Rattle.rule.specs.Rows.{rowsOf}
-use Rattle.quantise.specs.Block.{Quant, called, isSkipped, lambdaHere}
+use Rattle.quantise.specs.Block.{Quant, calledIn, isSkipped, lambdaHere}
 use Rattle.quantise.specs.Call.{sampleFault, levelFault, priceFault, distortionFault, largestHere, uncodedHere}
 use Rattle.rule.specs.Prices.{pricesOf}
 use Rattle.quantise.specs.Code.{Held}
@@ -61,13 +61,13 @@ start-5 c = start-4 (else-4 c)
 
 -- the call that they ask for
 abbrev asked : tie.Start → Quant
-asked s = called (s .args .block .now) (s .args .log2-side) (s .args .component) (s .args .settings) (s .args .intra-slice) (s .args .intra-coded) (s .args .costs)
+asked s = calledIn (s .args .mode) (s .args .block .now) (s .args .log2-side) (s .args .component) (s .args .settings) (s .args .intra-slice) (s .args .intra-coded) (s .args .costs)
 
 -- whether the block is skipped
 skipped-is : (c : tie.After-is-walked) → isSkipped (asked (start-walked c)) ≡ not (c .is-walked .result)
 skipped-is c =
     let s = start-walked c in
-    skipped-here (s .args .block .now) (s .args .log2-side) (s .args .component) (s .args .settings) (s .args .intra-slice) (s .args .intra-coded) (s .args .costs) (s .pre .0) (s .pre .1) (s .pre .5)
+    skipped-here (s .args .mode) (s .args .block .now) (s .args .log2-side) (s .args .component) (s .args .settings) (s .args .intra-slice) (s .args .intra-coded) (s .args .costs) (s .pre .0) (s .pre .1) (s .pre .5)
     ∙ ap (λ (n : ℕ). not (some (λ z. leb n (scaled (scaleOf forward (s .args .settings .qp)) z)) (s .args .block .now))) (sym (c .before .before .before .skip-threshold .ensures .0))
     ∙ ap (λ (q : ℕ). not (some (λ z. leb (c .before .before .before .skip-threshold .result) (scaled q z)) (s .args .block .now))) (sym (c .before .scale .ensures))
     ∙ ap not (sym (c .is-walked .ensures))
@@ -85,14 +85,14 @@ few c = below-next _ (c .before .largest .ensures .small) (c .if2 .left)
 sample-no : (c : tie.Else2) → sampleFault .holds (asked (start-2 c)) ≡ false
 sample-no c =
     let s = start-2 c in
-    sample-here (s .args .block .now) (s .args .log2-side) (s .args .component) (s .args .settings) (s .args .intra-slice) (s .args .intra-coded) (s .args .costs) (s .pre .0) (s .pre .1) (s .pre .5) false (c .before .largest .ensures .lowest ∙ ne-eqb _ 32768 (c .if2 .left))
+    sample-here (s .args .mode) (s .args .block .now) (s .args .log2-side) (s .args .component) (s .args .settings) (s .args .intra-slice) (s .args .intra-coded) (s .args .costs) (s .pre .0) (s .pre .1) (s .pre .5) false (c .before .largest .ensures .lowest ∙ ne-eqb _ 32768 (c .if2 .left))
 
 -- M
 largest-is : (c : tie.After-rounded) → largestHere (asked (start-2 (c .before))) ≡ c .rounded .result
 largest-is c =
     let s = start-2 (c .before) in
     let g = c .before .before .before .before in
-    largest-here (s .args .block .now) (s .args .log2-side) (s .args .component) (s .args .settings) (s .args .intra-slice) (s .args .intra-coded) (s .args .costs) (s .pre .0) (s .pre .1) (s .pre .5) (g .scale-of .result) (g .scale-of .ensures) (c .before .before .largest .result) (c .before .before .largest .ensures .is) ∙ sym (c .rounded .ensures .0)
+    largest-here (s .args .mode) (s .args .block .now) (s .args .log2-side) (s .args .component) (s .args .settings) (s .args .intra-slice) (s .args .intra-coded) (s .args .costs) (s .pre .0) (s .pre .1) (s .pre .5) (g .scale-of .result) (g .scale-of .ensures) (c .before .before .largest .result) (c .before .before .largest .ensures .is) ∙ sym (c .rounded .ensures .0)
 
 level-no : (c : tie.Else3) → levelFault .holds (asked (start-3 c)) ≡ false
 level-no c =
@@ -100,13 +100,13 @@ level-no c =
     let e2 = else-2 e3 in
     let e1 = else-1 e2 in
     let s = start-3 c in
-    level-here (s .args .block .now) (s .args .log2-side) (s .args .component) (s .args .settings) (s .args .intra-slice) (s .args .intra-coded) (s .args .costs) (s .pre .0) (s .pre .1) (s .pre .5) (walked e1) false (ap (ltb 32767) (largest-is (c .before)) ∙ le-ltb 32767 (c .before .rounded .result) (omega (arith, c .if3 .left)))
+    level-here (s .args .mode) (s .args .block .now) (s .args .log2-side) (s .args .component) (s .args .settings) (s .args .intra-slice) (s .args .intra-coded) (s .args .costs) (s .pre .0) (s .pre .1) (s .pre .5) (walked e1) false (ap (ltb 32767) (largest-is (c .before)) ∙ le-ltb 32767 (c .before .rounded .result) (omega (arith, c .if3 .left)))
 
 -- lambda·(M + 1), as code has it
 weight-is : (c : tie.After-lambda-whole)
     → (let s = start-3 (c .before) in
     lambdaHere (asked s) * suc (largestHere (asked s)) ≡ c .lambda-whole .result * (c .before .before .rounded .result + 1))
-unfolding lambdaHere called
+unfolding lambdaHere calledIn
 weight-is c =
     rw (largest-is (c .before .before), add-one)
     (ap (λ (n : ℕ). n * suc (c .before .before .rounded .result)) (sym (c .lambda-whole .ensures .is)))
@@ -118,7 +118,7 @@ price-no c =
     let e2 = else-2 e3 in
     let e1 = else-1 e2 in
     let s = start-4 c in
-    price-here (s .args .block .now) (s .args .log2-side) (s .args .component) (s .args .settings) (s .args .intra-slice) (s .args .intra-coded) (s .args .costs) (s .pre .0) (s .pre .1) (s .pre .5) (walked e1) false (ap (ltb (2 ^ 41)) (weight-is (c .before)) ∙ le-ltb (2 ^ 41) _ (c .if4 .left))
+    price-here (s .args .mode) (s .args .block .now) (s .args .log2-side) (s .args .component) (s .args .settings) (s .args .intra-slice) (s .args .intra-coded) (s .args .costs) (s .pre .0) (s .pre .1) (s .pre .5) (walked e1) false (ap (ltb (2 ^ 41)) (weight-is (c .before)) ∙ le-ltb (2 ^ 41) _ (c .if4 .left))
 
 -- D
 sum-held : (c : tie.After-uncoded) → Held (uncodedHere (asked (start-4 (c .before .before)))) (c .uncoded .result)
@@ -128,7 +128,7 @@ sum-held c =
     let e2 = else-2 e3 in
     let s = start-4 (c .before .before) in
     let g = e2 .before .before .before in
-    subst (λ (n : ℕ). Held n (c .uncoded .result)) (sym (uncoded-here (s .args .block .now) (s .args .log2-side) (s .args .component) (s .args .settings) (s .args .intra-slice) (s .args .intra-coded) (s .args .costs) (s .pre .0) (s .pre .1) (s .pre .5) (g .scale-of .result) (g .scale-of .ensures))) (c .uncoded .ensures)
+    subst (λ (n : ℕ). Held n (c .uncoded .result)) (sym (uncoded-here (s .args .mode) (s .args .block .now) (s .args .log2-side) (s .args .component) (s .args .settings) (s .args .intra-slice) (s .args .intra-coded) (s .args .costs) (s .pre .0) (s .pre .1) (s .pre .5) (g .scale-of .result) (g .scale-of .ensures))) (c .uncoded .ensures)
 
 distortion-no : (c : tie.Else5) → distortionFault .holds (asked (start-5 c)) ≡ false
 distortion-no c =
@@ -138,13 +138,13 @@ distortion-no c =
     let e2 = else-2 e3 in
     let e1 = else-1 e2 in
     let s = start-5 c in
-    distortion-here (s .args .block .now) (s .args .log2-side) (s .args .component) (s .args .settings) (s .args .intra-slice) (s .args .intra-coded) (s .args .costs) (s .pre .0) (s .pre .1) (s .pre .5) (walked e1) false (le-ltb (2 ^ 60) _ (held-is _ _ (sum-held (c .before)) (c .if5 .left) .1))
+    distortion-here (s .args .mode) (s .args .block .now) (s .args .log2-side) (s .args .component) (s .args .settings) (s .args .intra-slice) (s .args .intra-coded) (s .args .costs) (s .pre .0) (s .pre .1) (s .pre .5) (walked e1) false (le-ltb (2 ^ 60) _ (held-is _ _ (sum-held (c .before)) (c .if5 .left) .1))
 
 -- the prices are the rule's
 prices-are : (c : tie.After-prices-of)
     → (let s = start-5 (c .before .before) in
     c .prices-of .result ≡ pricesOf 32768 (lambdaHere (asked s)) (s .args .costs) (rowsOf (s .args .component) (s .args .intra-coded)))
-unfolding lambdaHere called
+unfolding lambdaHere calledIn
 prices-are c =
     let e5 = c .before .before in
     let e4 = else-4 e5 in
@@ -178,7 +178,7 @@ returns c =
     lowest-reaches (c .before .before .before .before .before .before .before .skip-threshold .result) (c .before .before .before .before .before .scale .result)
     (omega (arith, thr .2, c .before .before .before .before .before .scale .ensures, scale-range (s .args .settings .qp)))
     (s .args .block .now) (sym (c .before .before .before .before .is-walked .ensures) ∙ not-true _ (c .before .before .before .if1 .taken)) in
-    let a = skipped-answer (s .args .block .now) (s .args .log2-side) (s .args .component) (s .args .settings) (s .args .intra-slice) (s .args .intra-coded) (s .args .costs) (s .pre .0) (s .pre .1) (s .pre .5) (s .pre .2) (s .pre .3) (s .pre .4) (skipped-is (c .before .before .before .before) ∙ c .before .before .before .if1 .taken) none in
+    let a = skipped-answer (s .args .mode) (s .args .block .now) (s .args .log2-side) (s .args .component) (s .args .settings) (s .args .intra-slice) (s .args .intra-coded) (s .args .costs) (s .pre .0) (s .pre .1) (s .pre .5) (s .pre .2) (s .pre .3) (s .pre .4) (skipped-is (c .before .before .before .before) ∙ c .before .before .before .if1 .taken) none in
     (sym (a .0), c .before .clear .ensures ∙ sym (a .1))
 
 scale-of-requires : tie.Need-scale-of-requires
@@ -191,12 +191,12 @@ same-length-2 : tie.Need-same-length-2
 same-length-2 c = search needs
 
 returns-2 : tie.Need-returns-2
-unfolding called sampleFault
+unfolding calledIn sampleFault
 returns-2 c =
     let s = start-1 (c .before .before .before .before) in
     let e =
     refused-answer (asked s)
-    (past-five (s .args .block .now) (s .args .log2-side) (s .args .component) (s .args .settings) (s .args .intra-slice) (s .args .intra-coded) (s .args .costs) (s .pre .0) (s .pre .1) (s .pre .5) (s .pre .2) (s .pre .3) (s .pre .4) (here (sample-here (s .args .block .now) (s .args .log2-side) (s .args .component) (s .args .settings) (s .args .intra-slice) (s .args .intra-coded) (s .args .costs) (s .pre .0) (s .pre .1) (s .pre .5) true (c .before .largest .ensures .lowest ∙ eq-eqb _ 32768 (c .if2 .taken))))) in
+    (past-five (s .args .mode) (s .args .block .now) (s .args .log2-side) (s .args .component) (s .args .settings) (s .args .intra-slice) (s .args .intra-coded) (s .args .costs) (s .pre .0) (s .pre .1) (s .pre .5) (s .pre .2) (s .pre .3) (s .pre .4) (here (sample-here (s .args .mode) (s .args .block .now) (s .args .log2-side) (s .args .component) (s .args .settings) (s .args .intra-slice) (s .args .intra-coded) (s .args .costs) (s .pre .0) (s .pre .1) (s .pre .5) true (c .before .largest .ensures .lowest ∙ eq-eqb _ 32768 (c .if2 .taken))))) in
     (sym (e .0), sym (e .1))
 
 rounded-requires : tie.Need-rounded-requires
@@ -206,12 +206,12 @@ same-length-3 : tie.Need-same-length-3
 same-length-3 c = search needs
 
 returns-3 : tie.Need-returns-3
-unfolding called levelFault
+unfolding calledIn levelFault
 returns-3 c =
     let s = start-2 (c .before .before) in
     let e =
     refused-answer (asked s)
-    (past-five (s .args .block .now) (s .args .log2-side) (s .args .component) (s .args .settings) (s .args .intra-slice) (s .args .intra-coded) (s .args .costs) (s .pre .0) (s .pre .1) (s .pre .5) (s .pre .2) (s .pre .3) (s .pre .4) (later (sample-no (c .before .before)) (here (level-here (s .args .block .now) (s .args .log2-side) (s .args .component) (s .args .settings) (s .args .intra-slice) (s .args .intra-coded) (s .args .costs) (s .pre .0) (s .pre .1) (s .pre .5) (walked (c .before .before .before .before .before .before)) true (ap (ltb 32767) (largest-is (c .before)) ∙ lt-ltb 32767 _ (c .if3 .taken)))))) in
+    (past-five (s .args .mode) (s .args .block .now) (s .args .log2-side) (s .args .component) (s .args .settings) (s .args .intra-slice) (s .args .intra-coded) (s .args .costs) (s .pre .0) (s .pre .1) (s .pre .5) (s .pre .2) (s .pre .3) (s .pre .4) (later (sample-no (c .before .before)) (here (level-here (s .args .mode) (s .args .block .now) (s .args .log2-side) (s .args .component) (s .args .settings) (s .args .intra-slice) (s .args .intra-coded) (s .args .costs) (s .pre .0) (s .pre .1) (s .pre .5) (walked (c .before .before .before .before .before .before)) true (ap (ltb 32767) (largest-is (c .before)) ∙ lt-ltb 32767 _ (c .if3 .taken)))))) in
     (sym (e .0), sym (e .1))
 
 lambda-whole-requires : tie.Need-lambda-whole-requires
@@ -228,7 +228,7 @@ same-length-4 : tie.Need-same-length-4
 same-length-4 c = search needs
 
 returns-4 : tie.Need-returns-4
-unfolding called priceFault
+unfolding calledIn priceFault
 returns-4 c =
     let e3 = c .before .before in
     let e2 = else-2 e3 in
@@ -236,7 +236,7 @@ returns-4 c =
     let s = start-3 (c .before .before) in
     let e =
     refused-answer (asked s)
-    (past-five (s .args .block .now) (s .args .log2-side) (s .args .component) (s .args .settings) (s .args .intra-slice) (s .args .intra-coded) (s .args .costs) (s .pre .0) (s .pre .1) (s .pre .5) (s .pre .2) (s .pre .3) (s .pre .4) (later (sample-no e2) (later (level-no (c .before .before)) (here (price-here (s .args .block .now) (s .args .log2-side) (s .args .component) (s .args .settings) (s .args .intra-slice) (s .args .intra-coded) (s .args .costs) (s .pre .0) (s .pre .1) (s .pre .5) (walked e1) true (ap (ltb (2 ^ 41)) (weight-is (c .before)) ∙ lt-ltb (2 ^ 41) _ (c .if4 .taken))))))) in
+    (past-five (s .args .mode) (s .args .block .now) (s .args .log2-side) (s .args .component) (s .args .settings) (s .args .intra-slice) (s .args .intra-coded) (s .args .costs) (s .pre .0) (s .pre .1) (s .pre .5) (s .pre .2) (s .pre .3) (s .pre .4) (later (sample-no e2) (later (level-no (c .before .before)) (here (price-here (s .args .mode) (s .args .block .now) (s .args .log2-side) (s .args .component) (s .args .settings) (s .args .intra-slice) (s .args .intra-coded) (s .args .costs) (s .pre .0) (s .pre .1) (s .pre .5) (walked e1) true (ap (ltb (2 ^ 41)) (weight-is (c .before)) ∙ lt-ltb (2 ^ 41) _ (c .if4 .taken))))))) in
     (sym (e .0), sym (e .1))
 
 uncoded-requires : tie.Need-uncoded-requires
@@ -252,7 +252,7 @@ same-length-5 : tie.Need-same-length-5
 same-length-5 c = search needs
 
 returns-5 : tie.Need-returns-5
-unfolding called distortionFault
+unfolding calledIn distortionFault
 returns-5 c =
     let e4 = c .before .before .before in
     let e3 = else-3 e4 in
@@ -261,7 +261,7 @@ returns-5 c =
     let s = start-4 (c .before .before .before) in
     let e =
     refused-answer (asked s)
-    (past-five (s .args .block .now) (s .args .log2-side) (s .args .component) (s .args .settings) (s .args .intra-slice) (s .args .intra-coded) (s .args .costs) (s .pre .0) (s .pre .1) (s .pre .5) (s .pre .2) (s .pre .3) (s .pre .4) (later (sample-no e2) (later (level-no e3) (later (price-no (c .before .before .before)) (here (distortion-here (s .args .block .now) (s .args .log2-side) (s .args .component) (s .args .settings) (s .args .intra-slice) (s .args .intra-coded) (s .args .costs) (s .pre .0) (s .pre .1) (s .pre .5) (walked e1) true (lt-ltb (2 ^ 60) _ (held-beyond _ _ (sum-held (c .before)) (c .if5 .taken))))))))) in
+    (past-five (s .args .mode) (s .args .block .now) (s .args .log2-side) (s .args .component) (s .args .settings) (s .args .intra-slice) (s .args .intra-coded) (s .args .costs) (s .pre .0) (s .pre .1) (s .pre .5) (s .pre .2) (s .pre .3) (s .pre .4) (later (sample-no e2) (later (level-no e3) (later (price-no (c .before .before .before)) (here (distortion-here (s .args .mode) (s .args .block .now) (s .args .log2-side) (s .args .component) (s .args .settings) (s .args .intra-slice) (s .args .intra-coded) (s .args .costs) (s .pre .0) (s .pre .1) (s .pre .5) (walked e1) true (lt-ltb (2 ^ 60) _ (held-beyond _ _ (sum-held (c .before)) (c .if5 .taken))))))))) in
     (sym (e .0), sym (e .1))
 
 contexts-of-requires : tie.Need-contexts-of-requires
@@ -301,7 +301,7 @@ code-levels-requires c κs =
             (c .before .prices-of .result) (lambda .result) (m .result) (m .ensures .0) (e3 .if3 .left)
             (omega (arith, e4 .if4 .left, add-one (m .result))) each;
         few = all-few (s .args .block .now) (top .result) (top .ensures .is) small;
-        is = d .0 ∙ uncoded-is (s .args .block .now) (s .args .log2-side) (s .args .component) (s .args .settings) (s .args .intra-slice) (s .args .intra-coded) (s .args .costs) (s .pre .0) (s .pre .1) (s .pre .5) (g .scale-of .result) (g .scale-of .ensures) (c .before .prices-of .result) (prices-are (c .before));
+        is = d .0 ∙ uncoded-is (s .args .mode) (s .args .block .now) (s .args .log2-side) (s .args .component) (s .args .settings) (s .args .intra-slice) (s .args .intra-coded) (s .args .costs) (s .pre .0) (s .pre .1) (s .pre .5) (g .scale-of .result) (g .scale-of .ensures) (c .before .prices-of .result) (prices-are (c .before));
         small = c .before .before .before .if5 .left;
       },
     )
@@ -319,7 +319,7 @@ returns-6 c =
     let s = start-5 e5 in
     let g = e2 .before .before .before in
     let a =
-    coded-answer (s .args .block .now) (s .args .log2-side) (s .args .component) (s .args .settings) (s .args .intra-slice) (s .args .intra-coded) (s .args .costs) (s .pre .0) (s .pre .1) (s .pre .5) (g .scale-of .result) (g .scale-of .ensures) (s .pre .2) (s .pre .3) (s .pre .4) (walked e1)
+    coded-answer (s .args .mode) (s .args .block .now) (s .args .log2-side) (s .args .component) (s .args .settings) (s .args .intra-slice) (s .args .intra-coded) (s .args .costs) (s .pre .0) (s .pre .1) (s .pre .5) (g .scale-of .result) (g .scale-of .ensures) (s .pre .2) (s .pre .3) (s .pre .4) (walked e1)
     (but (sample-no e2) (but (level-no e3) (but (price-no e4) (but (distortion-no e5) end))))
     (c .before .before .before .prices-of .result) (prices-are (c .before .before .before)) _ _ (c .before .code-levels .ensures) in
     (sym (a .0), sym (a .1))

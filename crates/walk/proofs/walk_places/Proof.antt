@@ -10,8 +10,9 @@ use Rattle.tables.specs.Scan.{scanAt}
 use Rattle.price.specs.OnePass.{step}
 use Rattle.rule.specs.Prices.{ruleBy}
 use Rattle.rule.specs.Places.{Scanned}
+use Rattle.rule.proofs.Places.{some-kept, product-small}
 use Rattle.walk.specs.Walking.{Begins, Ready, totalsOf}
-use Rattle.walk.proofs.Steps.{Walking, begun, going, product-small, some-kept, ready, base-small, passes, steps, taken-small, walked-over}
+use Rattle.walk.proofs.Steps.{Walking, begun, going, ready, base-small, passes, steps, taken-small, walked-over}
 use Rattle.walk.proofs.walk_places.Statement.{statement}
 use Rattle.walk.proofs.walk_places.Tie as tie
 
@@ -86,7 +87,7 @@ mul-step : tie.Need-mul-step Inv-loop μ-loop
 mul-step c =
     let t = turn (c .before .before) in
     let l = t .before .loop in
-    let x = product-small _ _ _ _ _ _ (l .inv .0) (l .inv .1) (l .n) (inside-n t) in
+    let x = product-small _ _ _ _ (l .inv .1 .weighable) (scanned t) in
     record { fits = omega (arith, x, ap (λ (a : ℕ). a * start t .args .g .q) (kept-is (c .before .before))) }
 
 -- something is kept for a place that is stepped at

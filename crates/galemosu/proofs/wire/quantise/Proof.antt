@@ -3,7 +3,7 @@
 use mathlib.Core.Path.{ap, _∙_}
 use borrow.Author.Needs.{needs}
 use Rattle.price.specs.declared.Costs.{Costs}
-use Rattle.quantise.specs.Block.{Quant, called}
+use Rattle.quantise.specs.Block.{Quant, calledIn}
 use Rattle.quantise.specs.Call.{quantAnswer, quantBuffer}
 use Rattle.galemosu.specs.Wire.{yes}
 use Rattle.galemosu.proofs.Wired.{quant-coded, quant-refused}
@@ -19,8 +19,8 @@ quant-nnz-requires c κs = search needs
 enum-known-coded : tie.Need-enum-known-coded
 enum-known-coded c = search needs
 
-cast-t21 : tie.Need-cast-t21
-cast-t21 c = search needs
+cast-t22 : tie.Need-cast-t22
+cast-t22 c = search needs
 
 enum-known-coded-2 : tie.Need-enum-known-coded-2
 enum-known-coded-2 c = search needs
@@ -28,8 +28,8 @@ enum-known-coded-2 c = search needs
 component-number-requires : tie.Need-component-number-requires
 component-number-requires c κs = search needs
 
-cast-t23 : tie.Need-cast-t23
-cast-t23 c = search needs
+cast-t24 : tie.Need-cast-t24
+cast-t24 c = search needs
 
 number-requires : tie.Need-number-requires
 number-requires c κs = search needs
@@ -42,7 +42,7 @@ returns c =
     let q = c .before .before .before .before .before .before in
     let a = q .before .before .before .args in
     let t = q .before .before .costs-of .ensures in
-    let of : Costs → Quant = λ t. called (a .block .now) (a .log2-side) (a .component) (record { qp = a .qp; lambda = a .lambda }) (yes (a .intra-slice)) (yes (a .intra-coded)) t in
+    let of : Costs → Quant = λ t. calledIn (a .mode) (a .block .now) (a .log2-side) (a .component) (record { qp = a .qp; lambda = a .lambda }) (yes (a .intra-slice)) (yes (a .intra-coded)) t in
     let g = c .before .before .before .coded .given in
     let w = quant-coded _ _ (q .quant-nnz .ensures .0 ∙ ap (λ (t : Costs). quantAnswer (of t)) t) (g .0 .0) (g .1) in
     (w .0, (w .1, q .quant-nnz .ensures .1 ∙ ap (λ (t : Costs). quantBuffer (of t)) t))
@@ -55,7 +55,7 @@ returns-2 c =
     let q = c .before .before .before .before .before .before .before in
     let a = q .before .before .before .args in
     let t = q .before .before .costs-of .ensures in
-    let of : Costs → Quant = λ t. called (a .block .now) (a .log2-side) (a .component) (record { qp = a .qp; lambda = a .lambda }) (yes (a .intra-slice)) (yes (a .intra-coded)) t in
+    let of : Costs → Quant = λ t. calledIn (a .mode) (a .block .now) (a .log2-side) (a .component) (record { qp = a .qp; lambda = a .lambda }) (yes (a .intra-slice)) (yes (a .intra-coded)) t in
     let g = c .before .before .before .before .coded2 .given in
     let w = quant-refused _ _ (q .quant-nnz .ensures .0 ∙ ap (λ (t : Costs). quantAnswer (of t)) t) (g .0 .0) (g .0 .1 .0) _ _ (g .1) (c .number .ensures) (c .before .before .component-number .ensures) in
     (w .0, (w .1, q .quant-nnz .ensures .1 ∙ ap (λ (t : Costs). quantBuffer (of t)) t))
@@ -67,10 +67,10 @@ quantise-spec =
     costs-of-requires
     quant-nnz-requires
     enum-known-coded
-    cast-t21
+    cast-t22
     enum-known-coded-2
     component-number-requires
-    cast-t23
+    cast-t24
     number-requires
     same-length
     returns

@@ -1,13 +1,14 @@
--- `quantise::levels::code_in` meets its contract: what is kept is walked and cut, and signed.
+-- `quantise::levels::code_in` meets its contract: what is kept is walked or searched, and signed.
 -- Assumes nothing.
 use mathlib.Core.Path.{_≡_, sym, subst, _∙_}
 use Prim.Native.Nat.{ℕ, _*_, _%_, _^_}
 use native.Mathlib.Omega.{arith}
+use lib.Pow.{pow-mono}
 use borrow.Author.Needs.{needs}
 use Rattle.rule.specs.Places.{Scanned}
 use Rattle.quantise.specs.Code.{Codable, CodedAs}
 use Rattle.rule.proofs.Scaling.{bit}
-use Rattle.quantise.proofs.Coding.{area-range, area-is, scan-held, begins, level-small, coded-as}
+use Rattle.quantise.proofs.Coding.{area-range, area-is, scan-held, findable, room-left, level-small, coded-as}
 use Rattle.quantise.proofs.levels.code_in.Statement.{statement}
 use Rattle.quantise.proofs.levels.code_in.Tie as tie
 
@@ -18,8 +19,8 @@ start c = c .before .before .before .before .before
 abbrev filling : tie.After-keep → tie.After-fill-scan
 filling c = c .before .before .before .before .before
 
-abbrev keeping : tie.After-choose-levels → tie.After-keep
-keeping c = c .before .before .before .before .before .before .before .before
+abbrev keeping : tie.After-choose → tie.After-keep
+keeping c = c .before .before .before .before .before .before
 
 -- the side, as the shift makes it
 abbrev sideBy : tie.Start → ℕ
@@ -53,22 +54,13 @@ keep-requires c κs =
     let s = c .before .before .before .before .before .before .before .before .before in
     (s .pre .4, omega (arith, s .pre .2 .room, area-range 5 (s .args .log2-side) (s .pre .1)))
 
-add-t24 : tie.Need-add-t24
-add-t24 c = search needs
-
-add-t25 : tie.Need-add-t25
-add-t25 c = search needs
-
-choose-levels-requires : tie.Need-choose-levels-requires
-choose-levels-requires c κs =
-    let k = c .before .before .before .before .before .before .before in
+choose-requires : tie.Need-choose-requires
+choose-requires c κs =
+    let k = c .before .before .before .before .before in
     let f = filling k in
     let s = start f in (
-      scanned f,
-      begins (s .args .p) (s .args .g) (sideBy s) (s .args .block .now) (s .args .d) _ (scanned f) (codable s) _ _ (k .keep .ensures),
-      k .keep .ensures .count,
-      s .pre .5 ∙ codable s .room,
-      s .pre .6,
+      omega (arith, side-is s, pow-mono {i = s .args .log2-side} {j = 5} (s .pre .1)),
+      findable (s .args .p) (s .args .g) (sideBy s) (s .args .block .now) (s .args .d) _ (scanned f) (codable s) _ _ (k .keep .ensures) _ (s .pre .5 ∙ codable s .room) (s .pre .6),
     )
 
 put-signs-requires : tie.Need-put-signs-requires
@@ -77,9 +69,9 @@ put-signs-requires c κs =
     let k = keeping w in
     let f = filling k in
     let s = start f in (
-      w .choose-levels .ensures .room ∙ sym (codable s .room),
+      room-left (s .args .p) (s .args .g) (sideBy s) (s .args .block .now) (s .args .d) _ (scanned f) (codable s) _ _ (k .keep .ensures) (s .args .mode) _ _ (w .choose .ensures) ∙ sym (codable s .room),
       omega (arith, s .pre .2 .room, area-range 5 (s .args .log2-side) (s .pre .1)),
-      level-small (s .args .p) (s .args .g) (sideBy s) (s .args .block .now) (s .args .d) _ (scanned f) (codable s) _ _ (k .keep .ensures) _ _ (w .choose-levels .ensures),
+      level-small (s .args .p) (s .args .g) (sideBy s) (s .args .block .now) (s .args .d) _ (scanned f) (codable s) _ _ (k .keep .ensures) (s .args .mode) _ _ (w .choose .ensures),
     )
 
 same-length : tie.Need-same-length
@@ -101,9 +93,9 @@ returns c =
     let f = filling k in
     let s = start f in
     let put = c .before .put-signs in
-    subst (λ (n : ℕ). CodedAs (s .args .p) (s .args .g) n (s .args .block .now) (put .last .0) (record { count = put .result; price = w .choose-levels .result }))
+    subst (λ (n : ℕ). CodedAs (s .args .mode) (s .args .p) (s .args .g) n (s .args .block .now) (put .last .0) (record { count = put .result; price = w .choose .result }))
     (side-is s)
-    (coded-as (s .args .p) (s .args .g) (sideBy s) (s .args .block .now) (s .args .d) _ (scanned f) (codable s) _ _ (k .keep .ensures) _ _ (w .choose-levels .ensures)
+    (coded-as (s .args .p) (s .args .g) (sideBy s) (s .args .block .now) (s .args .d) _ (scanned f) (codable s) _ _ (k .keep .ensures) (s .args .mode) _ _ (w .choose .ensures)
     (put .last .0) (put .result) (put .ensures .0) (put .ensures .1))
 
 pub code-in-spec : {M : Type 1} → statement M
@@ -115,9 +107,7 @@ code-in-spec =
     shl-side
     fill-scan-requires
     keep-requires
-    add-t24
-    add-t25
-    choose-levels-requires
+    choose-requires
     put-signs-requires
     same-length
     same-length-2

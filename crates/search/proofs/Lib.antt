@@ -1,0 +1,6 @@
+pub mod Weighing
+pub mod Holding
+pub mod Choosing
+pub mod Looking
+pub mod Reading
+pub mod Finding
