@@ -1,5 +1,5 @@
-"""Document 01 and the line protocol in Python's whole numbers, sentence by sentence. It shares nothing with the crates, and stands in for
-nothing of theirs: recorded answers and the label's expected text are held against it.
+"""Document 01, document 02's second mode (its ticket 9) and the line protocol in Python's whole numbers, sentence by sentence. It shares nothing
+with the crates, and stands in for nothing of theirs: recorded answers and the label's expected text are held against it.
 
     python3 tools/paper.py < requests     an answer line for each request line
 
@@ -293,17 +293,68 @@ class Paper:
     def count(self, block, levels):
         return sum(a != 0 for a in levels)
 
+    # ---- quantiser: the cheapest block of all, in the second mode. A rate depends on the level before it only by whether that is 0, so
+    # what may follow a place is known by two numbers: the least price of it after a 0 and after a 1, which stands for every nonzero level.
+    def in_order(self, m):
+        """The magnitudes allowed, as the dictionary has them."""
+        return sorted(set(self.allowed(m)))
+
+    def ending(self, block, p):
+        """What follows a nonzero level at place p that is the last one."""
+        return block.lambda_ * self.last_flag(block.last) + block.uncoded[p + 1]
+
+    def going_on(self, block, ahead):
+        """What follows a nonzero level that is not the last one, at least."""
+        return block.lambda_ * self.more_flag(block.last) + ahead[1]
+
+    def goes_on(self, block, p, ahead):
+        """At equal price the block ends: zeros come first."""
+        return self.going_on(block, ahead) < self.ending(block, p)
+
+    def least_with(self, block, p, a, before, ahead):
+        """The least price of the magnitude a at place p and of what follows; with a 0, a nonzero level is still to come."""
+        behind = min(self.ending(block, p), self.going_on(block, ahead)) if a else ahead[0]
+        return block.cost(p, a, before) + behind
+
+    def behind_the_last(self):
+        """No nonzero level can come."""
+        return math.inf, math.inf
+
+    def ahead(self, block):
+        """From each place on, after a 0 and after a 1: the least price of what has a nonzero level still to come. From behind forwards."""
+        found = [self.behind_the_last()]
+        for p, m in reversed(list(enumerate(block.rounded))):
+            least = lambda before: min(self.least_with(block, p, a, before, found[-1]) for a in self.in_order(m))
+            found.append((least(0), least(1)))
+        return found[::-1]
+
+    def is_coded(self, block, ahead):
+        """At equal price the empty block is taken, which is the first of all."""
+        return block.lambda_ * self.coded_flag(block.cbf) + ahead[self.start()] < block.empty_price()
+
+    def cheapest(self, block):
+        """Of all blocks of allowed magnitudes the one of least price, at equal price the first in dictionary order."""
+        levels, before, ahead = [], self.start(), self.ahead(block)
+        goes_on = self.is_coded(block, ahead[0])
+        for p, m in enumerate(block.rounded):
+            a = min(self.in_order(m), key=lambda a: self.least_with(block, p, a, before, ahead[p + 1])) if goes_on else 0
+            goes_on = goes_on and (a == 0 or self.goes_on(block, p, ahead[p + 1]))
+            levels.append(a)
+            before = min(a, 1)
+        return levels
+
+    # ---- quantiser: the whole
     def coded(self, coefficients, *settings):
         """Count, price and levels of a block that refusals 1 to 6 let pass; settings as Block has them."""
         block = Block(self, coefficients, *settings)
         self.first_fault(self.late_tests(block.component, lambda: block))
         return self.finished(block)
 
-    def finished(self, block):
-        """The same of a block that all refusals let pass."""
+    def finished(self, block, least=False):
+        """The same of a block that all refusals let pass; least: in the second mode."""
         if block.skipped:
             return 0, self.skipped_price(block), self.cleared(block)
-        levels = self.chosen(block)
+        levels = self.cheapest(block) if least else self.chosen(block)
         out = [0] * len(levels)
         for p, a in zip(block.places, levels):
             out[p] = -a if block.coefficients[p] < 0 else a
@@ -368,8 +419,8 @@ class Paper:
         ])
         return self.coefficients(buffer[:n], lw, lh) + buffer[n:]
 
-    def quantise(self, buffer, log2, component, qp, d, intra_slice, intra_coded, costs):
-        """Count, price and buffer."""
+    def quantise(self, buffer, log2, component, qp, d, intra_slice, intra_coded, costs, least=False):
+        """Count, price and buffer; least: in the second mode."""
         n = self.places(log2, log2)
         block = functools.cache(lambda: Block(self, buffer[:n], log2, component, qp, d, intra_slice, intra_coded, costs))
         self.first_fault([
@@ -380,7 +431,7 @@ class Paper:
             (5, 0, lambda: len(buffer) < n),
             (6, component, lambda: self.coefficient_fault(self.sampled(buffer, n))),
         ] + self.late_tests(component, block))
-        count, price, levels = self.finished(block())
+        count, price, levels = self.finished(block(), least)
         return count, price, levels + buffer[n:]
 
     def runs(self, run, component):
@@ -401,8 +452,8 @@ class Paper:
         n = self.places(luma, luma)
         return n + n // 2
 
-    def sub_block(self, buffer, luma, run, qp, d, intra_slice, intra_coded, costs):
-        """Count and price of each component, and the buffer."""
+    def sub_block(self, buffer, luma, run, qp, d, intra_slice, intra_coded, costs, least=False):
+        """Count and price of each component, and the buffer; least: in the second mode."""
         at, side = self.stretches(luma), lambda k: luma if k == Y else luma - 1
         held = lambda k: buffer[at[k][0]:at[k][1]]
 
@@ -421,7 +472,7 @@ class Paper:
         self.first_fault(tests)
         answers, after = [], list(buffer)
         for k in (Y, U, V):
-            count, price, after[slice(*at[k])] = self.finished(block(k)) if k in run_ones else self.not_run(held(k))
+            count, price, after[slice(*at[k])] = self.finished(block(k), least) if k in run_ones else self.not_run(held(k))
             answers.append((count, price))
         return answers, after
 
@@ -429,6 +480,9 @@ class Paper:
         return 0, 0, residuals
 
     # ---- the line protocol
+    # verbs, and whether they are of the second mode
+    QUANTISE, SUBBLOCK = {b"quantise": False, b"quantise-least": True}, {b"subblock": False, b"subblock-least": True}
+
     def lines(self, data):
         """A last line may lack its newline."""
         lines = data.split(b"\n")
@@ -450,16 +504,16 @@ class Paper:
         if verb == b"transform":
             lw, lh = words.log2(), words.log2()
             return b"accepted :", self.transform(words.samples(), lw, lh)
-        if verb == b"quantise":
+        if verb in self.QUANTISE:
             component, log2, qp, d = words.component(), words.log2(), words.u32(), words.f64()
             slice_, coded, costs = words.flag(), words.flag(), words.costs()
-            count, price, after = self.quantise(words.samples(), log2, component, qp, d, slice_, coded, costs)
+            count, price, after = self.quantise(words.samples(), log2, component, qp, d, slice_, coded, costs, self.QUANTISE[verb])
             return b"accepted %d %d :" % (count, price), after
-        if verb == b"subblock":
+        if verb in self.SUBBLOCK:
             log2, run = words.log2(), words.u32()
             qp, d = zip(*[(words.u32(), words.f64()) for k in (Y, U, V)])
             slice_, coded, costs = words.flag(), words.flag(), words.costs()
-            answers, after = self.sub_block(words.samples(), log2, run, qp, d, slice_, coded, costs)
+            answers, after = self.sub_block(words.samples(), log2, run, qp, d, slice_, coded, costs, self.SUBBLOCK[verb])
             return b"accepted %s :" % b" ".join(b"%d %d" % a for a in answers), after
         raise Malformed
 
