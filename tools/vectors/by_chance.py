@@ -1,7 +1,7 @@
 """The requests of crates/replay/stdin: every shape, QP, component and flag, with blocks and tables of many kinds, drawn from a fixed seed.
 Most are small; of side 32 there are a few dozen. About one in seven is refused."""
 import math
-from vectors.lines import BELOW_HALF, quantise, subblock, transform
+from vectors.lines import BELOW_HALF, least, quantise, subblock, transform
 
 SCALES = [26214, 23302, 20560, 18396, 16384, 14564]
 NANS = ["7ff8000000000000", "fff8000000000000", "7ff0000000000001", "ffffffffffffffff"]
@@ -288,10 +288,32 @@ def even_cuts(r, count):
         yield quantise(block, log2, component, qp, lambda_ / 32768, costs=table)
 
 
+def tied(r, count):
+    """Steps, lambdas and costs that are powers of two, coefficients of quarters of a step, and costs of a few times what the square of a quarter
+    costs: most blocks are not the only ones of least price."""
+    for turn in range(count):
+        log2, k = r.of((1, 1, 1, 1, 2, 2, 2, 3, 3, 4)), r.between(2, 5)
+        quarter = 1 << (3 - log2 + k)
+        block = [r.of((1, -1)) * quarter * r.of((0, 0, 1, 2, 3, 3, 4, 5, 6, 6, 7, 10)) for _ in range(1 << 2 * log2)]
+        table = [8192 * r.below(r.of((3, 6, 9))) for _ in range(28)]
+        yield quantise(block + surplus(r), log2, turn % 3, 6 * k + 4, r.of((2.0 ** (2 * k - 6), 2.0 ** (2 * k - 6), 0.0)), flag(r), flag(r), table)
+
+
+def second_mode(r):
+    """Both calls of it: chance, late refusals, and equal prices."""
+    for sides, one in ((LEAST_QUANTISES, a_quantise), (LEAST_SUBBLOCKS, a_subblock)):
+        for turn, log2 in enumerate(log2 for log2, count in sides.items() for _ in range(count)):
+            yield least(one(r, 5 * turn, log2))
+    for line in [*late(r), *even_cuts(r, 30), *tied(r, 120)]:
+        yield least(line)
+
+
 # how many of each side
 TRANSFORMS = {2: 26, 3: 22, 4: 18, 5: 13, 6: 11, 7: 8, 8: 7, 9: 6, 10: 8}
 QUANTISES = {1: 400, 2: 380, 3: 230, 4: 80, 5: 40}
 SUBBLOCKS = {2: 380, 3: 240, 4: 80, 5: 30}
+LEAST_QUANTISES = {1: 90, 2: 90, 3: 60, 4: 24, 5: 12}
+LEAST_SUBBLOCKS = {2: 80, 3: 50, 4: 16, 5: 6}
 
 
 def requests():
@@ -306,4 +328,4 @@ def requests():
             for _ in range(count):
                 lines.append(one(r, turn, log2))
                 turn += 1
-    return lines + list(late(r)) + list(even_cuts(r, 60))
+    return lines + list(late(r)) + list(even_cuts(r, 60)) + list(second_mode(Random(0xd1342543de82ef95)))

@@ -1,7 +1,7 @@
 """The requests of crates/tq/stdin: document 01's numbers, every limit with its neighbour, every kind of malformed line. A section is a function
 that gives lines; SECTIONS is their order. The file has nothing but requests, so that what a line is for stands here."""
 import math
-from vectors.lines import BELOW_HALF, FLAT, USUAL, bits, costs, put, quantise, subblock, transform
+from vectors.lines import BELOW_HALF, FLAT, USUAL, bits, costs, least, put, quantise, subblock, transform
 
 NAN = "7ff8000000000000"
 # one residual block of each component, none of which vanishes at QP 4
@@ -452,6 +452,115 @@ def wide_rates():
     yield quantise(put(1024, {0: 29183, 40: -29183}), 5, qp=3, d=0.5, costs=LARGEST)
 
 
+# ---- the second mode
+
+def in_the_second_mode(*sections, every=1):
+    """Of these sections, every so manieth request of a call that has a second mode, with its verb."""
+    for section in sections:
+        yield from [least(line) for line in section() if not line.startswith(b"transform ")][::every]
+
+
+def refusals_of_the_second_mode():
+    """The nine in their order, and each limit with its neighbour."""
+    yield from in_the_second_mode(order_of_the_quantiser, order_of_three_components, late_refusals_of_three_components, nothing_run, sides)
+    yield from in_the_second_mode(qps, lengths, samples, every=3)
+    yield from in_the_second_mode(lambdas, every=5)
+    yield from in_the_second_mode(levels, prices, distortions)
+    for at in range(28):
+        table = FLAT[:at] + [1048577] + FLAT[at + 1:]
+        yield least(quantise([20, 7, 0, 0], component=at % 3, costs=table))
+        yield least(subblock(PICTURE, run=at % 8, costs=table))
+
+
+def what_runs_in_the_second_mode():
+    """Masks, flags, and the skip, which goes first."""
+    yield from in_the_second_mode(masks)
+    yield from in_the_second_mode(flags, thresholds, every=3)
+
+
+def the_walks_choices_in_the_second_mode():
+    """What tells levels apart in the walk: document 01's numbers, contexts, flags, errors, wide rates."""
+    yield from in_the_second_mode(the_papers_numbers, ties, cuts)
+    yield from in_the_second_mode(contexts, lowered, scans, every=2)
+    yield from in_the_second_mode(negative_errors, widest_prices, every=3)
+    yield from in_the_second_mode(wide_rates, every=2)
+
+
+# At QP 4, side 2 and d = 1/1024 a coefficient c as magnitude a costs (c - 16a)², and so many UNITs of a rate cost the same. The sign is 4 of them.
+UNIT = 8192
+
+
+def in_units(**entries):
+    """Entries in UNITs, the others 0."""
+    return costs(0, **{name: UNIT * value for name, value in entries.items()})
+
+
+def where_the_walk_is_dearer():
+    """A nonzero level after a 0 is dear, so that the one before is coded for the sake of the next; so is the 0 after a 0; a level in the middle
+    is not worth its flag, or worth it only as it keeps another away from a 0; each also one unit of rate to either side, in every component."""
+    for k in range(3):
+        row, last = (0, 0) if k == 0 else (2, 1)
+        name = lambda table, r, column: "%s_%d_%d" % (table, r, column)
+        for more in (-1, 0, 1):
+            # 12 as 1 costs 16 + 4 + 126 or so, as 0 it is 144
+            dear = {name("level", row, 0): 126 + more}
+            for block in ([12, 32, 0, 0], [12, -32, 12, 32], [0, 12, 12, -32], [12, 12, 12, 12], [32, 12, 12, 32], [-12, 12, 32, 12]):
+                yield least(quantise(block, component=k, costs=in_units(**dear, **{name("run", row + 1, 0): 50})))
+                yield least(quantise(block, component=k, costs=in_units(**dear, **{name("run", row + 1, 1): 20})))
+            for block in ([32, 12, 32, 0], [32, 12, 12, 32], [12, 32, -12, 32]):
+                yield least(quantise(block, component=k, costs=in_units(**{name("last", last, 0): 124 + more})))
+                yield least(quantise(block, component=k, costs=in_units(**{name("last", last, 0): 124 + more, name("run", row, 1): 3})))
+    # the same in larger blocks: side 4 has a step of 8 and squares of 4 units, side 8 a step of 4 and squares of 16
+    for log2, c in ((2, 6), (3, 3)):
+        dear = in_units(level_0_0=126, run_1_0=50, run_1_1=4, last_0_0=1)
+        for shift in range(4):
+            yield least(quantise([(0, c, c, 2 * c, 0, -c, 0, 3 * c)[(i * i + shift) % 8] for i in range(1 << 2 * log2)], log2, costs=dear))
+            yield least(quantise([(0, c, -c)[(i * (i + shift)) % 3] for i in range(1 << 2 * log2)], log2, costs=dear))
+
+
+def ties_of_the_second_mode():
+    """At equal price the first in dictionary order, of magnitudes in scan order."""
+    dear = {"level_0_0": 126, "run_1_1": 20}
+    # one of the two twelves is coded, at the same price: the later one, also where a search forwards would know only that it comes after a 0
+    for block in ([12, 12, 32, 0], [-12, 12, 32, 0], [12, -12, -32, 0], [12, 12, 32, 8], [12, 12, 12, 32]):
+        yield least(quantise(block, costs=in_units(**dear)))
+        yield least(quantise(block, costs=in_units(**dear, last_0_0=1)))
+        yield least(quantise(block, component=2, costs=in_units(level_2_0=126, run_3_1=20)))
+    # exactly one level is coded, since the empty block is dear: the last in scan order, not by rows and not by columns
+    one = in_units(level_0_0=126, cbf_1_0=20)
+    for places in ((0, 3), (1, 2), (0, 1, 2, 3)):
+        yield least(quantise(put(4, {p: 12 for p in places}), costs=one))
+        yield least(quantise(put(4, {p: -12 for p in places}), costs=one))
+    for places in ((2, 8), (1, 4), (3, 12), (2, 4), (7, 13), (6, 9), (0, 15), (2, 5, 8)):
+        yield least(quantise(put(16, {p: 6 for p in places}), 2, costs=one))
+    for places in ((2, 16), (7, 56), (6, 49), (9, 10, 17)):
+        yield least(quantise(put(64, {p: 3 if p % 2 else -3 for p in places}), 3, costs=one))
+    # with a lambda of 0, or tables of zeros, halves of a step tie everywhere
+    for block in ([8, 16, 8, 0], [-8, 16, -8, 24], [24, -24, 24, -24], [40, 8, 24, 16], [8, 24, 8, 12], [-40, -24, -8, -16]):
+        for k in range(3):
+            yield least(quantise(block, component=k, d=0.0))
+            yield least(quantise(block, component=k, d=0.0, costs=MIXED))
+            yield least(quantise(block, component=k, d=1 / 32768, costs=[0] * 28))
+    yield least(quantise([8, 12, 4, 0, -12, 20, -4, 8, 4, 4, -28, 0, 12, 8, 16, 4], 2, d=0.0))
+    yield least(quantise([(4 * i * i + 2 * i) % 31 - 15 for i in range(256)], 4, d=0.0, qp=10))
+    yield least(subblock([r // 8 * 8 for r in PICTURE], qp=(16, 16, 16), d=(0.0, 0.0, 0.0)))
+    yield least(subblock([r // 8 * 8 for r in PICTURE], qp=(28, 22, 22), d=(0.0, 1 / 32768, 0.0), costs=[0] * 28))
+
+
+def levels_at_equal_price():
+    """Neither the number of levels nor their sum settles a tie: 0 1 1 comes before 1 0 0, and 0 2 before 1 0."""
+    for more in (-1, 0, 1):
+        two = {"level_0_0": 126, "run_1_0": 44, "last_0_0": 50, "run_1_1": 30, "cbf_1_0": 20}
+        table = in_units(**two)
+        table[2] += more
+        yield least(quantise([12, 13, 14, 0], costs=table))
+        yield least(quantise([-12, 13, -14, 0], costs=table))
+        # at d = 1/256 the unit is a quarter
+        table = [e // 4 for e in in_units(level_0_0=466, run_1_0=512, level_0_1=50, last_0_0=512, cbf_1_0=20)]
+        table[9] += more
+        yield least(quantise([23, 25, 0, 0], d=1 / 256, costs=table))
+
+
 # ---- malformed lines
 
 GOOD = {
@@ -459,12 +568,15 @@ GOOD = {
     b"quantise": quantise([20, 7, 0, 0]),
     b"subblock": subblock(PICTURE),
 }
+# the same of the second mode
+LEAST = {verb + b"-least": least(GOOD[verb]) for verb in (b"quantise", b"subblock")}
 # what the words of a request are, after its verb
 FIELDS = {
     b"transform": ["log2"] * 2 + ["n"] + ["sample"] * 4,
     b"quantise": ["component", "log2", "u32", "lambda", "u32", "u32"] + ["cost"] * 28 + ["n"] + ["sample"] * 4,
     b"subblock": ["log2", "u32"] + ["u32", "lambda"] * 3 + ["u32"] * 2 + ["cost"] * 28 + ["n"] + ["sample"] * 24,
 }
+FIELDS.update({verb: FIELDS[verb.removesuffix(b"-least")] for verb in LEAST})
 # past each type, first one whose low bits would pass
 PAST_TYPE = {
     "log2": [2 ** 64 + 2, 2 ** 64, 10 ** 20, 10 ** 30],
@@ -490,9 +602,9 @@ def chosen_fields(verb):
             yield i + 1, kind
 
 
-def spaces():
+def spaces(good=GOOD):
     """Exactly one space between words and none at the ends; a tab, a carriage return and the like are no spaces."""
-    for line in GOOD.values():
+    for line in good.values():
         verb, rest = line.split(b" ", 1)
         yield from (b" " + line, line + b" ", line + b"  ", verb + b"  " + rest, rest, verb + b"\t" + rest, line + b"\r", line + b"\t", b"\t" + line)
         yield from (line.replace(b" ", b"  "), line.replace(b" ", b"\t"), line.replace(b" ", b""), line.replace(b" ", b","), line.replace(b" ", b"\xc2\xa0"))
@@ -502,20 +614,31 @@ def spaces():
 def verbs():
     """Unknown, alone, in upper case, cut or longer; an empty line, a space, bytes that are no text."""
     yield from (b"", b" ", b"\r", b"\t", b"\0", b"\xff", b"-", b"0", b":", b"accepted :", b"malformed", b"# transform 1 1 4 1 2 3 4", b"help", b"quit")
-    for verb, line in GOOD.items():
+    yield from like_a_verb(GOOD)
+
+
+def like_a_verb(good):
+    for verb, line in good.items():
         rest = line.split(b" ", 1)[1]
         yield from (verb, verb + b" ", verb + b":", verb + b"\0", verb.upper(), verb.title())
         for other in (verb.upper(), verb.title(), verb[:-1], verb + b"s", b"\xef\xbb\xbf" + verb, b"\0" + verb, verb[:-1] + bytes([verb[-1] | 128])):
             yield other + b" " + rest
-    for verb in GOOD:
-        for other in GOOD:
+    for verb in good:
+        for other in good:
             if verb != other:
-                yield verb + b" " + GOOD[other].split(b" ", 1)[1]
+                yield verb + b" " + good[other].split(b" ", 1)[1]
 
 
 def numbers_in_every_field():
     """No sign but a minus before a digit from 1 to 9, no leading zero, no point, no other base; and nothing past the field's type."""
-    for verb, line in GOOD.items():
+    yield from like_a_number(GOOD)
+    yield replaced(GOOD[b"transform"], 1, b"1" * 60000)
+    yield replaced(GOOD[b"transform"], 3, b"0" * 60000 + b"4")
+    yield replaced(GOOD[b"transform"], 7, b"-" + b"9" * 300)
+
+
+def like_a_number(good):
+    for verb, line in good.items():
         words = line.split(b" ")
         for at, kind in chosen_fields(verb):
             w = words[at]
@@ -525,26 +648,23 @@ def numbers_in_every_field():
             bad += [b"\xd9\xa1", w + b"\0", w + b"\xff", b"1-", b"1 ", b"'1'", b"1_0", b":", b"/"]
             bad += [b"%d" % n for n in PAST_TYPE[kind]] + ([b"-1"] if kind != "sample" else [])
             yield from (replaced(line, at, b) for b in bad)
-    yield replaced(GOOD[b"transform"], 1, b"1" * 60000)
-    yield replaced(GOOD[b"transform"], 3, b"0" * 60000 + b"4")
-    yield replaced(GOOD[b"transform"], 7, b"-" + b"9" * 300)
 
 
-def lambdas_in_hex():
+def lambdas_in_hex(good=GOOD):
     """16 lower-case digits, no more and no less."""
-    for verb in (b"quantise", b"subblock"):
+    for verb in good:
         for at, kind in chosen_fields(verb):
             if kind == "lambda":
                 for w in (b"3f5000000000000", b"3f500000000000000", b"3F50000000000000", b"3f5000000000000A", b"0x3f500000000000", b"0x3f50000000000000",
                           b"3f5000000000000g", b"3f5000000000000`", b"3f5000000000000:", b"3f5000000000000/", b"3f5000000000000@", b"-3f5000000000000",
                           b"+3f5000000000000", b"0.0009765625", b"nan", b"0", b"", b"1", b"3f50 000000000000", b"3f5000000000000\0", b"3f5000000000000\xb0",
                           b"abcdefabcdefabcd", b"ABCDEFABCDEFABCD", b"0123456789abcdef", b"7FF8000000000000", b"fFf8000000000000"):
-                    yield replaced(GOOD[verb], at, w)
+                    yield replaced(good[verb], at, w)
 
 
-def missing_and_more():
+def missing_and_more(good=GOOD):
     """Each field left out, or once more; N one more or less than the samples; a line that ends after each of its words."""
-    for verb, line in GOOD.items():
+    for verb, line in good.items():
         words = line.split(b" ")
         n = len(FIELDS[verb]) - FIELDS[verb][::-1].index("n")
         for at in range(1, n + 2):
@@ -569,7 +689,7 @@ def most_samples():
 
 
 def long_lines():
-    """The longest request that can be read has 58,083 bytes. A longer line is passed over to its end, and gets one answer: what stands in it
+    """The longest request of the first mode that can be read has 58,083 bytes. A longer line is passed over to its end, and gets one answer: what stands in it
     behind the first 65,535 bytes, or any other number, is no request."""
     most = 2 ** 32 - 1
     yield subblock([-32768] * 8192, 2 ** 64 - 1, most, (most,) * 3, (NAN,) * 3, most, most, [2 ** 64 - 1] * 28)
@@ -584,6 +704,26 @@ def long_lines():
     yield good
 
 
+def malformed_in_the_second_mode():
+    """Some of each kind; verbs that look like the two; the longest request that can be read, of 58,089 bytes."""
+    yield from spaces(LEAST)
+    yield from like_a_verb(LEAST)
+    for verb in (b"quantise-", b"quantise -least", b"quantise least", b"quantise_least", b"quantiseleast", b"quantise--least", b"quantise-LEAST",
+                 b"quantise-least-least", b"least", b"-least", b"least-quantise", b"quantise-lease", b"quantise-most", b"quantise-l", b"subblock-leas",
+                 b"sub-block-least", b"sub_block_least"):
+        like = LEAST[b"quantise-least" if verb.find(b"quantise") >= 0 else b"subblock-least"]
+        yield verb + b" " + like.split(b" ", 1)[1]
+    yield least(GOOD[b"transform"])
+    yield from list(like_a_number(LEAST))[::5]
+    yield from list(lambdas_in_hex(LEAST))[::4]
+    yield from list(missing_and_more(LEAST))[::2]
+    for n in (8192, 8193):
+        yield least(quantise([20, 7, 0, 0] + [0] * (n - 4)))
+        yield least(subblock(PICTURE + [1] * (n - 24)))
+    yield least(subblock([-32768] * 8192, 2 ** 64 - 1, 2 ** 32 - 1, (2 ** 32 - 1,) * 3, (NAN,) * 3, 2 ** 32 - 1, 2 ** 32 - 1, [2 ** 64 - 1] * 28))
+    yield from LEAST.values()
+
+
 def end_of_file():
     """The last line; the file has no newline behind it."""
     yield quantise([200, 100, 60, 33, -32768], component=1, costs=MIXED)
@@ -593,7 +733,8 @@ SECTIONS = [
     the_papers_numbers, run_only, exact_halves, sides, lambdas, qps, cost_entries, lengths, samples, levels, prices, widest_prices, distortions, order_of_the_quantiser,
     order_of_the_transform, order_of_three_components, late_refusals_of_three_components, masks, nothing_run, flags, thresholds, contexts, scans, ties,
     cuts, lowered, negative_errors, wide_rates, spaces, verbs, numbers_in_every_field, lambdas_in_hex, missing_and_more, most_samples, long_lines,
-    end_of_file,
+    refusals_of_the_second_mode, what_runs_in_the_second_mode, the_walks_choices_in_the_second_mode, where_the_walk_is_dearer, ties_of_the_second_mode,
+    levels_at_equal_price, malformed_in_the_second_mode, end_of_file,
 ]
 
 

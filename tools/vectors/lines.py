@@ -30,6 +30,11 @@ def subblock(residuals, log2=2, run=7, qp=(4, 4, 4), d=(USUAL,) * 3, intra_slice
     return f"subblock {log2} {run} {settings} {intra_slice} {intra_coded} {' '.join(map(str, costs))} {numbers(residuals, n)}".encode()
 
 
+def least(line):
+    """The same request in the second mode."""
+    return line.replace(b" ", b"-least ", 1)
+
+
 # where each table starts among the 28 entries
 RUN, LEVEL, LAST, CBF = 0, 8, 16, 20
 
