@@ -175,16 +175,19 @@ port("the rate wraps to 32 bits", rate=lambda s, *of: wrapped(Paper.rate(s, *of)
 port("the rate stops at 32 bits", rate=lambda s, *of: min(Paper.rate(s, *of), 2 ** 31 - 1))
 
 
-def wrapped_choice(paper, block):
-    """Chosen by rates of 32 bits; the price is then worked out anew."""
-    other = type("Wrapping", (type(paper),), {"rate": lambda s, *of: wrapped(Paper.rate(s, *of))})()
-    block.paper = other
-    levels = Paper.chosen(other, block)
-    block.paper = paper
-    return levels
+def by_other_rules(choice, **rules):
+    """Levels chosen by these rules, and the price then worked out anew by the paper's."""
+    other = type("Choosing", (Paper,), rules)()
+
+    def chosen(paper, block):
+        block.paper = other
+        levels = getattr(Paper, choice)(other, block)
+        block.paper = paper
+        return levels
+    return {choice: chosen}
 
 
-port("levels chosen by rates of 32 bits", chosen=wrapped_choice)
+port("levels chosen by rates of 32 bits", **by_other_rules("chosen", rate=lambda s, *of: wrapped(Paper.rate(s, *of))))
 
 # ---- flags
 port("last[0] charged for the last too", last_flag=lambda s, last: last[0] + last[1])
@@ -197,6 +200,11 @@ port("cbf's two columns exchanged", coded_flag=lambda s, cbf: cbf[0], empty_flag
 port("D over places of m 1 and more alone", zero_distortion=lambda s, block, p: block.distortion(p, 0) if block.rounded[p] else 0)
 
 # ---- walk, cut, count, price
+def without_signs(paper, block, *mode):
+    count, price, out = Paper.finished(paper, block, *mode)
+    return count, price, [abs(a) for a in out]
+
+
 port("m before 0", allowed=lambda s, m: [m, 0] + ([m - 1] if m >= 2 else []))
 port("m-1 before m", allowed=lambda s, m: [0] + ([m - 1] if m >= 2 else []) + [m])
 port("m-1 before 0", allowed=lambda s, m: ([m - 1] if m >= 2 else []) + [0, m])
@@ -221,9 +229,9 @@ port("the price before the cut", price=lambda s, block, levels: block.price(s.wa
 port("the price without the cut's flag", price=lambda s, block, levels: block.price(levels) - block.lambda_ * block.last[1] * any(levels))
 port("the price without what is cut off", price=lambda s, block, levels: block.price(levels) - block.uncoded[max((p + 1 for p, a in enumerate(levels) if a), default=0)])
 port("an empty block's price is 0", price=lambda s, block, levels: block.price(levels) if any(levels) else 0)
-port("the two flags exchanged", quantise=lambda s, *of: Paper.quantise(s, *of[:5], of[6], of[5], of[7]),
-     sub_block=lambda s, *of: Paper.sub_block(s, *of[:5], of[6], of[5], of[7]))
-port("every level without its sign", finished=lambda s, block: (lambda n, price, out: (n, price, [abs(a) for a in out]))(*Paper.finished(s, block)))
+port("the two flags exchanged", quantise=lambda s, *of: Paper.quantise(s, *of[:5], of[6], of[5], *of[7:]),
+     sub_block=lambda s, *of: Paper.sub_block(s, *of[:5], of[6], of[5], *of[7:]))
+port("every level without its sign", finished=without_signs)
 port("always zeros", chosen=lambda s, block: [0] * len(block.places))
 
 
@@ -282,7 +290,7 @@ def moved(by, of):
 port("Y written before U has been refused", sub_block=early)
 port("coefficients left behind by a refusal", sub_block=left)
 port("a block cleared, then refused", quantise=cleared_when_refused)
-port("U and V merely zeroed", finished=lambda s, block: Paper.finished(s, block) if block.component == Y else (0, 0, [0] * len(block.places)))
+port("U and V merely zeroed", finished=lambda s, block, *mode: Paper.finished(s, block, *mode) if block.component == Y else (0, 0, [0] * len(block.places)))
 port("settings read of a component not run", settings_read=lambda s, run: [Y, U, V])
 port("samples read of a component not run", samples_read=lambda s, run: [Y, U, V])
 port("what is not run is cleared", not_run=lambda s, residuals: (0, 0, [0] * len(residuals)))
@@ -323,10 +331,15 @@ def exchange_components(numbers, one, other):
     return lambda paper, tests: sorted(tests, key=lambda t: place(t[0], {one: other, other: one}.get(t[1], t[1]) if t[0] in numbers else t[1]))
 
 
+def of_another(call, **rules):
+    """A call of the paper with these rules."""
+    other = type("Other", (Paper,), rules)()
+    return lambda paper, *of: getattr(other, call)(*of)
+
+
 def through(call, ordered):
     """One call with its tests in another order."""
-    other = type("Ordered", (Paper,), {"ordered": ordered})()
-    return {call: lambda paper, *of: getattr(other, call)(*of)}
+    return {call: of_another(call, ordered=ordered)}
 
 
 def by_component(number, component):
@@ -355,7 +368,7 @@ def lets_skipped_pass(paper, buffer, log2, *settings):
         return Paper.quantise(paper, buffer, log2, *settings)
     except Refused as refused:
         n = paper.places(log2, log2)
-        if refused.number == 6 and Block(paper, buffer[:n], log2, *settings).skipped:
+        if refused.number == 6 and Block(paper, buffer[:n], log2, *settings[:6]).skipped:
             return 0, 0, [0] * n + buffer[n:]
         raise
 
@@ -470,12 +483,207 @@ reader("a flag is yes when it is 1", flag=lambda s: s.u32() == 1)
 reader("a flag is yes when it is odd", flag=lambda s: s.u32() % 2 == 1)
 reader("a flag above 1 not read", flag=lambda s: s.whole(0, 1) == 1)
 reader("a line of 58,083 bytes not read", LONGEST_LINE=58082)
+reader("a line of 58,089 bytes not read", LONGEST_LINE=58088)
 port("the rest of a long line read as a line", lines=lambda s, data: [line[i:i + 65535] for line in Paper.lines(s, data) for i in range(0, max(1, len(line)), 65535)])
 port("an empty line passed over", lines=lambda s, data: [line for line in Paper.lines(s, data) if line])
 port("a last line without newline passed over", lines=lambda s, data: data.split(b"\n")[:-1])
 port("the surplus not printed by the transform", transform=lambda s, buffer, lw, lh: Paper.transform(s, buffer, lw, lh)[:s.places(lw, lh)])
 port("the surplus not printed by the quantiser", quantise=quantise_without_surplus)
 port("the surplus not printed by three components", sub_block=sub_block_without_surplus)
+
+# ---- the second mode: these differ from the paper there alone, and are asked its requests alone
+def second(name, **rules):
+    PORTS.append(type("second mode: " + name, (Paper,), {**rules, "asked": staticmethod(lambda line: b"-least" in line[:16])}))
+
+
+def searched(**rules):
+    return by_other_rules("cheapest", **rules)
+
+
+def in_it(call, wrong):
+    """A call that is wrong in the second mode alone: whether it is that is said last."""
+    return {call: lambda paper, *of: (wrong if of[-1] else getattr(Paper, call))(paper, *of)}
+
+
+def nonzero_first(paper, m):
+    zero, *levels = Paper.in_order(paper, m)
+    return levels + [zero]
+
+
+def exchanged_states(paper, block, p, a, before, ahead):
+    return Paper.least_with(paper, block, p, a, before, ahead[::-1])
+
+
+def place_by_place(rather):
+    """Forwards, with a price and a front for each of the two states; of two fronts at equal price the one whose last level is of the state `rather`
+    comes first, as if what stands before it didn't matter."""
+    def cheapest(paper, block):
+        of, fronts = block.lambda_, {1: (block.lambda_ * block.cbf[1], [])}
+        least, found = block.empty_price(), []
+        for p, m in enumerate(block.rounded):
+            longer = {}
+            for before in sorted(fronts, reverse=rather == 1):
+                for a in paper.in_order(m):
+                    price, levels, state = fronts[before][0] + block.cost(p, a, before), fronts[before][1] + [a], min(a, 1)
+                    if a and price + of * block.last[1] + block.uncoded[p + 1] < least:
+                        least, found = price + of * block.last[1] + block.uncoded[p + 1], levels
+                    price += of * block.last[0] if a else 0
+                    if state not in longer or price < longer[state][0]:
+                        longer[state] = price, levels
+            fronts = longer
+        return found + [0] * (len(block.rounded) - len(found))
+    return cheapest
+
+
+def at_equal_price(key):
+    """Of all blocks of least price the one that comes first by the key of a block and its levels; where there are too many, the paper's."""
+    def cheapest(paper, block):
+        if math.prod(len(paper.in_order(m)) for m in block.rounded) > 243:
+            return Paper.cheapest(paper, block)
+        blocks = map(list, itertools.product(*map(paper.in_order, block.rounded)))
+        return min(blocks, key=lambda levels: (block.price(levels), key(block, levels)))
+    return cheapest
+
+
+def by_rows(block, levels):
+    return [a for p, a in sorted(zip(block.places, levels))]
+
+
+def with_signs(block, levels):
+    return [signed(block.coefficients[p], a) for p, a in zip(block.places, levels)]
+
+
+def last_level(block, levels):
+    return max((p for p, a in enumerate(levels) if a), default=-1)
+
+
+def without_the_skip(paper, block, least):
+    walked = copy.copy(block)
+    walked.skipped = False
+    return Paper.finished(paper, walked, least)
+
+
+def skipped_as_empty(paper, block, least):
+    count, price, out = Paper.finished(paper, block, least)
+    return count, block.empty_price() if block.skipped else price, out
+
+
+def answer_of_the_walk(count_too):
+    """The block is the cheapest one, but its price, or its count, is the walk's."""
+    def finished(paper, block, least):
+        (count, price, out), (walked, dearer, _) = Paper.finished(paper, block, least), Paper.finished(paper, block)
+        return (walked, price, out) if count_too else (count, dearer, out)
+    return finished
+
+
+def by_the_walk_but(components):
+    return lambda paper, block: Paper.cheapest(paper, block) if block.component in components else paper.chosen(block)
+
+
+def by_a_call(call, **rules):
+    """One call with these rules, in the second mode."""
+    return in_it(call, of_another(call, **rules))
+
+
+def not_tested(number):
+    """Both calls without this test, in the second mode."""
+    ordered = lambda s, tests: [t for t in tests if t[0] != number]
+    return {**by_a_call("quantise", ordered=ordered), **by_a_call("sub_block", ordered=ordered)}
+
+
+def not_behind(paper, block):
+    """As many places searched as there are up to the last m above 0."""
+    front = copy.copy(block)
+    front.rounded = block.rounded[:last_level(block, block.rounded) + 1]
+    return Paper.ahead(paper, front) + [paper.behind_the_last()] * (len(block.rounded) - len(front.rounded))
+
+
+def read_as(**verbs):
+    """Words that are read as verbs of the line protocol, and whether they are of the second mode."""
+    return {table: {word.replace("_", "-").encode(): mode for word, mode in words.items()} for table, words in verbs.items()}
+
+
+def any_verb_with_least(paper, words):
+    if words.words and words.words[0] == b"transform-least":
+        words.words[0] = b"transform"
+    return Paper.answered(paper, words)
+
+
+second("0 after m at equal price", in_order=nonzero_first)
+second("m before m-1 at equal price", in_order=lambda s, m: [0] + Paper.in_order(s, m)[:0:-1])
+second("going on before ending at equal price", goes_on=lambda s, block, p, ahead: s.going_on(block, ahead) <= s.ending(block, p))
+second("a coded block before the empty one at equal price", is_coded=lambda s, block, ahead: s.lambda_flag(block) + ahead[1] <= block.empty_price(),
+       lambda_flag=lambda s, block: block.lambda_ * block.cbf[1])
+second("the last in dictionary order", in_order=lambda s, m: Paper.in_order(s, m)[::-1],
+       goes_on=lambda s, block, p, ahead: s.going_on(block, ahead) <= s.ending(block, p))
+second("forwards, a 0 last at equal price", cheapest=place_by_place(1))
+second("forwards, a 0 first at equal price", cheapest=place_by_place(0))
+second("fewest levels at equal price", cheapest=at_equal_price(lambda block, levels: (sum(map(bool, levels)), levels)))
+second("most zeros at the end at equal price", cheapest=at_equal_price(lambda block, levels: (last_level(block, levels), levels)))
+second("least sum at equal price", cheapest=at_equal_price(lambda block, levels: (sum(levels), levels)))
+second("dictionary order by rows", cheapest=at_equal_price(by_rows))
+second("dictionary order from the last place on", cheapest=at_equal_price(lambda block, levels: levels[::-1]))
+second("dictionary order with signs", cheapest=at_equal_price(with_signs))
+second("after a 0 and after a level exchanged", least_with=exchanged_states)
+second("searched as if never after a 0", **searched(run_context=lambda s, k, before: s.run_row(k)))
+second("searched as if always after a 0", **searched(run_context=lambda s, k, before: s.run_row(k) + 1))
+second("searched with the first place as after a 0", **searched(start=lambda s: 0))
+second("what follows a level taken as after a 0", going_on=lambda s, block, ahead: Paper.going_on(s, block, (None, ahead[0])))
+second("searched without last[1]", **searched(last_flag=lambda s, last: 0))
+second("searched without last[0]", **searched(more_flag=lambda s, last: 0))
+second("searched with last[0] for the last too", **searched(last_flag=lambda s, last: last[0] + last[1]))
+second("searched without cbf[1]", **searched(coded_flag=lambda s, cbf: 0))
+second("searched without cbf[0]", **searched(empty_flag=lambda s, cbf: 0))
+second("searched without the sign", **searched(SIGN=0))
+second("searched with luma's rows for chroma", **searched(run_row=lambda s, k: 0, level_row=lambda s, k: 0))
+second("searched by rates of 32 bits", **searched(rate=lambda s, *of: wrapped(Paper.rate(s, *of))))
+second("searched by way of f64", least_with=lambda s, *of: float(Paper.least_with(s, *of)))
+second("searched by way of f32", least_with=lambda s, *of: struct.unpack("f", struct.pack("f", Paper.least_with(s, *of)))[0])
+second("uncoded places behind the last left out", ending=lambda s, block, p: block.lambda_ * block.last[1])
+second("zeros behind the last level paid for", ending=lambda s, block, p: Paper.ending(s, block, p) + block.lambda_ * (len(block.rounded) - 1 - p))
+second("a block may end with a 0", behind_the_last=lambda s: (0, 0))
+second("the empty block not tried", is_coded=lambda s, block, ahead: ahead[1] < math.inf)
+second("the empty block only where the walk has it", is_coded=lambda s, block, ahead: any(s.chosen(block)))
+second("never ended before the last m above 0", ending=lambda s, block, p: math.inf if any(block.rounded[p + 1:]) else Paper.ending(s, block, p))
+second("m+1 allowed", in_order=lambda s, m: Paper.in_order(s, m) + [m + 1])
+second("m+1 allowed where m isn't 0", in_order=lambda s, m: Paper.in_order(s, m) + [m + 1] * (m > 0))
+second("m-1 not allowed", in_order=lambda s, m: sorted({0, m}))
+second("m-1 allowed from m of 3 on", in_order=lambda s, m: sorted({0, m} | ({m - 1} if m > 2 else set())))
+second("m-2 allowed", in_order=lambda s, m: sorted({*Paper.in_order(s, m), max(m - 2, 0)}))
+second("0 not allowed where m isn't 0", in_order=lambda s, m: Paper.in_order(s, m)[m > 0:])
+second("the walk's block", cheapest=lambda s, block: s.chosen(block))
+second("the walk's block for U and V", cheapest=by_the_walk_but((Y,)))
+second("the walk's block for Y", cheapest=by_the_walk_but((U, V)))
+second("the walk's block for V", cheapest=by_the_walk_but((Y, U)))
+second("the walk's price", **in_it("finished", answer_of_the_walk(False)))
+second("the walk's count", **in_it("finished", answer_of_the_walk(True)))
+second("always zeros", cheapest=lambda s, block: [0] * len(block.rounded))
+second("the skip not asked", **in_it("finished", without_the_skip))
+second("a skipped block's price the empty block's", **in_it("finished", skipped_as_empty))
+second("every level without its sign", **in_it("finished", without_signs))
+second("Y written before U has been refused", **in_it("sub_block", early))
+second("a block cleared, then refused", **in_it("quantise", cleared_when_refused))
+second("refusals 1, 4 and 5 with the component told", **in_it("quantise", told))
+second("7 not tested", **not_tested(7))
+second("8 not tested", **not_tested(8))
+second("9 not tested", **not_tested(9))
+for one in range(1, 9):
+    second("refusals %d and %d exchanged" % (one, one + 1), **by_a_call("quantise", ordered=exchange(one, one + 1)))
+for one in range(1, 8):
+    second("three components: refusals %d and %d exchanged" % (one, one + 1), **by_a_call("sub_block", ordered=exchange(one, one + 1)))
+second("settings read of a component not run", **by_a_call("sub_block", settings_read=lambda s, run: [Y, U, V]))
+second("what is not run is cleared", **by_a_call("sub_block", not_run=lambda s, residuals: (0, 0, [0] * len(residuals))))
+second("the surplus not printed by the quantiser", **in_it("quantise", quantise_without_surplus))
+second("the surplus not printed by three components", **in_it("sub_block", sub_block_without_surplus))
+second("quantise-least read as quantise", **read_as(QUANTISE={"quantise": False, "quantise_least": False}))
+second("subblock-least read as subblock", **read_as(SUBBLOCK={"subblock": False, "subblock_least": False}))
+second("quantise-least not read", **read_as(QUANTISE={"quantise": False}))
+second("subblock-least not read", **read_as(SUBBLOCK={"subblock": False}))
+second("transform-least read", answered=any_verb_with_least)
+port("quantise read as quantise-least", **read_as(QUANTISE={"quantise": True, "quantise_least": True}))
+port("subblock read as subblock-least", **read_as(SUBBLOCK={"subblock": True, "subblock_least": True}))
+port("quantise-l read too", **read_as(QUANTISE={"quantise": False, "quantise_least": True, "quantise_l": True}))
+port("quantise-most read too", **read_as(QUANTISE={"quantise": False, "quantise_least": True, "quantise_most": True}))
 
 # ---- ports that can't differ: what is said of them is checked as far as the stored requests go
 equal("7, 8 and 9 asked of a skipped block too", "there m is at most 1, lambda × 2 at most 2^29, D below 2^57", meets_late_tests=lambda s, block: True)
@@ -485,7 +693,9 @@ equal("7 of Y, U, V, then 8, then 9", "of three components only luma of side 32 
 equal("three components: refusals 8 and 9 exchanged", "no residuals reach 9", **through("sub_block", exchange(8, 9)))
 equal("the source's cap on L", "32767 × 26214 is below it", scaled=lambda s, c, qp: min(Paper.scaled(s, c, qp), 2 ** 31 - 1 - (1 << 13)))
 equal("m-1 tried where m is 1", "it is 0 once more", allowed=lambda s, m: [0, m] + ([m - 1] if m else []))
-equal("a line of more than 65,535 bytes read", "the longest request that can be read has 58,083", Words=type("Words", (Words,), {"LONGEST_LINE": 10 ** 9}))
+equal("second mode: m-1 allowed where m is 1", "it is 0 once more", in_order=lambda s, m: [0] + [m - 1] * (m > 0) + [m] * (m > 0))
+equal("second mode: not searched behind the last m above 0", "no nonzero level can come there", ahead=not_behind)
+equal("a line of more than 65,535 bytes read", "the longest request that can be read has 58,089", Words=type("Words", (Words,), {"LONGEST_LINE": 10 ** 9}))
 equal("lambda × (M+1) of 2^41 + 3 taken", "the nearest product past 2^41 is 2^41 + 4", PRICE=(1 << 41) + 3)
 
 
@@ -503,7 +713,10 @@ def stored():
 def wrong_answers(paper, requests, recorded, enough):
     """How many answers are wrong, up to enough, and the number of the first."""
     wrong, first = 0, None
+    asked = getattr(paper, "asked", lambda line: True)
     for i, (request, answer) in enumerate(itertools.zip_longest(requests, recorded)):
+        if request is not None and not asked(request):
+            continue
         if request is None or answer is None or paper.answer(request) != answer:
             wrong, first = wrong + 1, first or i + 1
             if wrong == enough:
@@ -520,7 +733,7 @@ def tried(job):
 def row(paper, tq, replay, enough, sections):
     count = lambda wrong: "%d%s" % (wrong, "+" if wrong == enough else "")
     first = "tq %d, %s" % (tq[1], sections[tq[1] - 1]) if tq[0] else "replay %d" % replay[1] if replay[0] else "-"
-    return "%-52s %5s %6s  %s" % ("the paper itself" if paper is Paper else paper.__name__, count(tq[0]), count(replay[0]), first)
+    return "%-66s %5s %6s  %s" % ("the paper itself" if paper is Paper else paper.__name__, count(tq[0]), count(replay[0]), first)
 
 
 def main():
@@ -529,7 +742,7 @@ def main():
     everyone = [Paper] + PORTS + EQUAL
     asked = [i for i, p in enumerate(everyone) if not words or any(w in p.__name__ for w in words)]
     sections, bad, caught = [name for name, _ in by_hand.requests()], [], [0, 0, 0]
-    print("%-52s %5s %6s  %s" % ("", "tq", "replay", "first"))
+    print("%-66s %5s %6s  %s" % ("", "tq", "replay", "first"))
     with multiprocessing.Pool(2) as pool:
         for at, tq, replay in pool.imap(tried, [(i, enough) for i in asked]):
             paper, wrong = everyone[at], 1 <= at <= len(PORTS)

@@ -561,6 +561,14 @@ def levels_at_equal_price():
         yield least(quantise([23, 25, 0, 0], d=1 / 256, costs=table))
 
 
+def close_prices():
+    """907 at QP 63 costs 51,599,931 × 1,069,869 + 1 more as 0 than as 1: at that lambda and that rate, coding each place saves 1, of a price that
+    has more digits than an f64. One unit of rate more, and nothing is coded."""
+    for block in ([907] * 1024, [-907, 907, 0, 907] * 256):
+        for rate in (1069868, 1069869, 1069870):
+            yield least(quantise(block, 5, qp=63, d=51599931 / 32768, costs=costs(0, level_0_0=rate - 32768)))
+
+
 # ---- malformed lines
 
 GOOD = {
@@ -734,7 +742,7 @@ SECTIONS = [
     order_of_the_transform, order_of_three_components, late_refusals_of_three_components, masks, nothing_run, flags, thresholds, contexts, scans, ties,
     cuts, lowered, negative_errors, wide_rates, spaces, verbs, numbers_in_every_field, lambdas_in_hex, missing_and_more, most_samples, long_lines,
     refusals_of_the_second_mode, what_runs_in_the_second_mode, the_walks_choices_in_the_second_mode, where_the_walk_is_dearer, ties_of_the_second_mode,
-    levels_at_equal_price, malformed_in_the_second_mode, end_of_file,
+    levels_at_equal_price, close_prices, malformed_in_the_second_mode, end_of_file,
 ]
 
 
