@@ -86,13 +86,20 @@ uint32_t galemosu_transform(int16_t *block, size_t len, size_t log2_w, size_t lo
 QUANTISE(galemosu_quantise_y, QUANTISE_Y)
 QUANTISE(galemosu_quantise_u, QUANTISE_U)
 QUANTISE(galemosu_quantise_v, QUANTISE_V)
+QUANTISE(galemosu_quantise_least_y, QUANTISE_LEAST_Y)
+QUANTISE(galemosu_quantise_least_u, QUANTISE_LEAST_U)
+QUANTISE(galemosu_quantise_least_v, QUANTISE_LEAST_V)
 
-uint32_t galemosu_sub_block(int16_t *buffer, size_t len, size_t log2_luma, const uint32_t qp[3], const double lambda[3], uint32_t run,
-    uint32_t intra_slice, uint32_t intra_coded, const uint64_t costs[28], uint64_t answer[7])
-{
-    struct call c = {.what = SUB_BLOCK, .len = len, .log2_a = log2_luma, .run = run, .intra_slice = intra_slice, .intra_coded = intra_coded};
-    memcpy(c.qp, qp, sizeof c.qp), memcpy(c.lambda, lambda, sizeof c.lambda), memcpy(c.costs, costs, sizeof c.costs);
-    relayed(&c, buffer);
-    memcpy(answer, c.answer, sizeof c.answer);
-    return c.result;
-}
+#define THREE(name, mode)                                                                                                            \
+    uint32_t name(int16_t *buffer, size_t len, size_t log2_luma, const uint32_t qp[3], const double lambda[3], uint32_t run,         \
+        uint32_t intra_slice, uint32_t intra_coded, const uint64_t costs[28], uint64_t answer[7])                                    \
+    {                                                                                                                                \
+        struct call c = {.what = mode, .len = len, .log2_a = log2_luma, .run = run, .intra_slice = intra_slice,                      \
+            .intra_coded = intra_coded};                                                                                             \
+        memcpy(c.qp, qp, sizeof c.qp), memcpy(c.lambda, lambda, sizeof c.lambda), memcpy(c.costs, costs, sizeof c.costs);            \
+        relayed(&c, buffer);                                                                                                         \
+        memcpy(answer, c.answer, sizeof c.answer);                                                                                   \
+        return c.result;                                                                                                             \
+    }
+THREE(galemosu_sub_block, SUB_BLOCK)
+THREE(galemosu_sub_block_least, SUB_BLOCK_LEAST)

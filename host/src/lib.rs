@@ -84,13 +84,18 @@ pub struct Coded {
 }
 
 type Quantise = unsafe extern "C" fn(*mut i16, usize, usize, u32, f64, u32, u32, *const u64, *mut u64) -> u32;
+type SubBlock = unsafe extern "C" fn(*mut i16, usize, usize, *const u32, *const f64, u32, u32, u32, *const u64, *mut u64) -> u32;
 
 extern "C" {
     fn galemosu_transform(block: *mut i16, len: usize, log2_w: usize, log2_h: usize) -> u32;
     fn galemosu_quantise_y(block: *mut i16, len: usize, log2_side: usize, qp: u32, lambda: f64, intra_slice: u32, intra_coded: u32, costs: *const u64, answer: *mut u64) -> u32;
     fn galemosu_quantise_u(block: *mut i16, len: usize, log2_side: usize, qp: u32, lambda: f64, intra_slice: u32, intra_coded: u32, costs: *const u64, answer: *mut u64) -> u32;
     fn galemosu_quantise_v(block: *mut i16, len: usize, log2_side: usize, qp: u32, lambda: f64, intra_slice: u32, intra_coded: u32, costs: *const u64, answer: *mut u64) -> u32;
+    fn galemosu_quantise_least_y(block: *mut i16, len: usize, log2_side: usize, qp: u32, lambda: f64, intra_slice: u32, intra_coded: u32, costs: *const u64, answer: *mut u64) -> u32;
+    fn galemosu_quantise_least_u(block: *mut i16, len: usize, log2_side: usize, qp: u32, lambda: f64, intra_slice: u32, intra_coded: u32, costs: *const u64, answer: *mut u64) -> u32;
+    fn galemosu_quantise_least_v(block: *mut i16, len: usize, log2_side: usize, qp: u32, lambda: f64, intra_slice: u32, intra_coded: u32, costs: *const u64, answer: *mut u64) -> u32;
     fn galemosu_sub_block(buffer: *mut i16, len: usize, log2_luma: usize, qp: *const u32, lambda: *const f64, run: u32, intra_slice: u32, intra_coded: u32, costs: *const u64, answer: *mut u64) -> u32;
+    fn galemosu_sub_block_least(buffer: *mut i16, len: usize, log2_luma: usize, qp: *const u32, lambda: *const f64, run: u32, intra_slice: u32, intra_coded: u32, costs: *const u64, answer: *mut u64) -> u32;
 }
 
 /// A refused call's answer: the result's number and the component that stands first in what was written.
@@ -129,11 +134,44 @@ pub fn quantise(
     intra_coded: bool,
     costs: &Costs,
 ) -> Result<Coded, Refused> {
-    let call: Quantise = match component {
-        Component::Y => galemosu_quantise_y,
+    let call = match component {
+        Component::Y => galemosu_quantise_y as Quantise,
         Component::U => galemosu_quantise_u,
         Component::V => galemosu_quantise_v,
     };
+    quantise_by(call, block, log2_side, settings, intra_slice, intra_coded, costs)
+}
+
+/// Quantises as `quantise` does, to the cheapest block of all: of the blocks whose magnitudes are each 0, the rounded magnitude or, if that
+/// is 2 or more, one less, the one of least price; at equal price the one whose magnitudes come first in dictionary order, in scan order.
+///
+/// It is never dearer than the block of `quantise`. A block that the quick skip clears is cleared here too, and refusals are the same.
+pub fn quantise_least(
+    block: &mut [i16],
+    log2_side: usize,
+    component: Component,
+    settings: Settings,
+    intra_slice: bool,
+    intra_coded: bool,
+    costs: &Costs,
+) -> Result<Coded, Refused> {
+    let call = match component {
+        Component::Y => galemosu_quantise_least_y as Quantise,
+        Component::U => galemosu_quantise_least_u,
+        Component::V => galemosu_quantise_least_v,
+    };
+    quantise_by(call, block, log2_side, settings, intra_slice, intra_coded, costs)
+}
+
+fn quantise_by(
+    call: Quantise,
+    block: &mut [i16],
+    log2_side: usize,
+    settings: Settings,
+    intra_slice: bool,
+    intra_coded: bool,
+    costs: &Costs,
+) -> Result<Coded, Refused> {
     let mut answer = [0u64; 3];
     // SAFETY: the block is one lent slice; the arrays have the lengths that the calls read and write, and outlive the call.
     let number = unsafe {
@@ -158,11 +196,38 @@ pub fn sub_block(
     intra_coded: bool,
     costs: &Costs,
 ) -> Result<[Coded; 3], Refused> {
+    sub_block_by(galemosu_sub_block, buffer, log2_luma, settings, run, intra_slice, intra_coded, costs)
+}
+
+/// Transforms and quantises as `sub_block` does, each component that is run to its cheapest block of all (`quantise_least`).
+pub fn sub_block_least(
+    buffer: &mut [i16],
+    log2_luma: usize,
+    settings: &[Settings; 3],
+    run: u32,
+    intra_slice: bool,
+    intra_coded: bool,
+    costs: &Costs,
+) -> Result<[Coded; 3], Refused> {
+    sub_block_by(galemosu_sub_block_least, buffer, log2_luma, settings, run, intra_slice, intra_coded, costs)
+}
+
+#[allow(clippy::too_many_arguments)] // those of the call, and which call
+fn sub_block_by(
+    call: SubBlock,
+    buffer: &mut [i16],
+    log2_luma: usize,
+    settings: &[Settings; 3],
+    run: u32,
+    intra_slice: bool,
+    intra_coded: bool,
+    costs: &Costs,
+) -> Result<[Coded; 3], Refused> {
     let (qp, lambda) = (settings.map(|s| s.qp), settings.map(|s| s.lambda));
     let mut answer = [0u64; 7];
-    // SAFETY: the buffer is one lent slice; the arrays have the lengths that the call reads and writes, and outlive it.
+    // SAFETY: the buffer is one lent slice; the arrays have the lengths that the calls read and write, and outlive the call.
     let number = unsafe {
-        galemosu_sub_block(buffer.as_mut_ptr(), buffer.len(), log2_luma, qp.as_ptr(), lambda.as_ptr(), run, intra_slice as u32, intra_coded as u32, costs.entries(), answer.as_mut_ptr())
+        call(buffer.as_mut_ptr(), buffer.len(), log2_luma, qp.as_ptr(), lambda.as_ptr(), run, intra_slice as u32, intra_coded as u32, costs.entries(), answer.as_mut_ptr())
     };
     match Refusal::of(number) {
         None => Ok([0, 1, 2].map(|k| Coded { count: answer[1 + k] as u32, price: answer[4 + k] })),
@@ -258,20 +323,130 @@ mod tests {
         assert_eq!(block, held);
     }
 
+    /// All entries 0 but the price of a level of 1 and, in units of what a square costs at QP 4 and lambda 1/1024, the run's four.
+    fn runs(level: u64, run: [u64; 4]) -> Costs {
+        let mut costs = Costs { run: [0; 8], level: [0; 8], last: [0; 4], cbf: [0; 8] };
+        for row in [0, 4] {
+            costs.level[row] = level * 8192;
+            run.into_iter().enumerate().for_each(|(i, entry)| costs.run[row + i] = entry * 8192);
+        }
+        costs
+    }
+
+    /// As document 01's P5: an intra-coded block in an intra slice, QP 4 and lambda 1/1024.
+    fn both_modes(held: [i16; 4], component: Component, costs: &Costs) -> [(Result<Coded, Refused>, [i16; 4]); 2] {
+        [quantise, quantise_least].map(|call| {
+            let mut block = held;
+            let settings = Settings { qp: 4, lambda: 1.0 / 1024.0 };
+            (call(&mut block, 1, component, settings, true, true, costs), block)
+        })
+    }
+
+    #[test]
+    fn the_walk_pays_for_a_level_after_a_zero_and_the_cheapest_block_does_not() {
+        // 12 costs 144 as 0 and 146 as 1; 32 costs 4 as 2, and 50 more after a 0
+        let costs = runs(126, [0, 0, 50, 0]);
+        for component in [Component::Y, Component::U, Component::V] {
+            let [walked, least] = both_modes([12, -32, 0, 0], component, &costs);
+            assert_eq!(walked, (Ok(Coded { count: 1, price: 198 << 18 }), [0, -2, 0, 0]));
+            assert_eq!(least, (Ok(Coded { count: 2, price: 150 << 18 }), [1, -2, 0, 0]));
+        }
+    }
+
+    #[test]
+    fn equal_prices_are_settled_by_dictionary_order() {
+        // one 12 of two is worth its level, since a 0 after a 0 costs 20: the later one
+        let [_, least] = both_modes([12, 12, 32, 0], Component::Y, &runs(126, [0, 0, 0, 20]));
+        assert_eq!(least, (Ok(Coded { count: 2, price: 294 << 18 }), [0, 1, 2, 0]));
+        // 12 costs 128 more as 0 than as 1, and as much for being coded: the empty block
+        let mut even = runs(124, [0; 4]);
+        let [_, least] = both_modes([12, 0, 0, 0], Component::Y, &even);
+        assert_eq!(least, (Ok(Coded { count: 0, price: 144 << 18 }), [0; 4]));
+        even.level[0] -= 1;
+        let [_, least] = both_modes([12, 0, 0, 0], Component::Y, &even);
+        assert_eq!(least, (Ok(Coded { count: 1, price: (144 << 18) - 32 }), [1, 0, 0, 0]));
+        // at lambda 0, 24 costs the same as 1 and as 2, and 8 as 0 and as 1
+        let mut block = [24, -8, -24, 8];
+        let settings = Settings { qp: 4, lambda: 0.0 };
+        let coded = quantise_least(&mut block, 1, Component::V, settings, true, true, &FLAT);
+        assert_eq!((coded, block), (Ok(Coded { count: 2, price: 256 << 18 }), [1, 0, -1, 0]));
+    }
+
+    #[test]
+    fn the_skip_goes_first_in_the_second_mode() {
+        let mut costs = FLAT;
+        costs.cbf = [1_048_576, 0, 1_048_576, 0, 1_048_576, 0, 1_048_576, 0];
+        for component in [Component::Y, Component::U, Component::V] {
+            let [walked, least] = both_modes([9, 0, 0, -9], component, &costs);
+            assert_eq!(least, (Ok(Coded { count: 0, price: 0 }), [0; 4]));
+            assert_eq!(walked, least);
+        }
+    }
+
+    #[test]
+    fn the_second_mode_refuses_what_the_first_refuses() {
+        let settings = Settings { qp: 4, lambda: 0.5 };
+        let unset = Settings { qp: 63, lambda: f64::NAN };
+        let wrong = Settings { qp: 64, lambda: f64::NAN };
+        let mut dear = FLAT;
+        dear.cbf[7] = 1_048_577;
+        let mut long = vec![0; 1024];
+        long[0] = 29184;
+        let (high, far) = (Settings { qp: 3, lambda: 8192.0 }, [16384; 1024]);
+        let faults: [(&[i16], usize, Settings, &Costs, Refusal, bool); 9] = [
+            (&[20], 0, wrong, &dear, Refusal::Side, false),
+            (&[20], 1, wrong, &dear, Refusal::Qp, true),
+            (&[20], 1, unset, &dear, Refusal::Lambda, true),
+            (&[20], 1, settings, &dear, Refusal::Cost, false),
+            (&[-32768, 0, 0], 1, settings, &FLAT, Refusal::Length, false),
+            (&[0, 0, 0, -32768, 5], 1, settings, &FLAT, Refusal::Sample, true),
+            (&long, 5, high, &FLAT, Refusal::Level, true),
+            (&far, 5, Settings { qp: 4, ..high }, &FLAT, Refusal::Price, true),
+            (&far, 5, Settings { qp: 4, lambda: 0.0 }, &FLAT, Refusal::Distortion, true),
+        ];
+        for (held, log2_side, settings, costs, refusal, told) in faults {
+            for component in [Component::Y, Component::U, Component::V] {
+                let mut block = held.to_vec();
+                let refused = quantise_least(&mut block, log2_side, component, settings, true, true, costs);
+                assert_eq!(refused, Err(Refused { refusal, component: if told { component } else { Component::Y } }));
+                assert_eq!(refused, quantise(&mut block, log2_side, component, settings, true, true, costs));
+                assert_eq!(block, held);
+            }
+        }
+    }
+
     #[test]
     fn three_components_are_the_transform_and_the_quantiser_alone() {
         let held: Vec<i16> = (0..30).map(|i| (i * 37 % 200 - 100) as i16).collect();
         let settings = [Settings { qp: 20, lambda: 0.25 }, Settings { qp: 12, lambda: 0.5 }, Settings { qp: 30, lambda: 0.0 }];
+        alone_is_the_same(sub_block, quantise, &held, &settings, &FLAT);
+    }
+
+    #[test]
+    fn three_components_in_the_second_mode_are_that_quantiser_alone() {
+        let held: Vec<i16> = (0..30).map(|i| (i * 37 % 200 - 100) as i16).collect();
+        let settings = [Settings { qp: 16, lambda: 4.0 }, Settings { qp: 22, lambda: 4.0 }, Settings { qp: 28, lambda: 1.0 }];
+        let costs = runs(60, [0, 0, 120, 50]);
+        alone_is_the_same(sub_block_least, quantise_least, &held, &settings, &costs);
+        // and not the walk's, in any component
+        let [walked, least] = [sub_block, sub_block_least].map(|call| call(&mut held.clone(), 2, &settings, 7, false, true, &costs).unwrap());
+        assert!((0..3).all(|k| least[k].price < walked[k].price), "{walked:?} {least:?}");
+    }
+
+    type Quantiser = fn(&mut [i16], usize, Component, Settings, bool, bool, &Costs) -> Result<Coded, Refused>;
+    type Three = fn(&mut [i16], usize, &[Settings; 3], u32, bool, bool, &Costs) -> Result<[Coded; 3], Refused>;
+
+    fn alone_is_the_same(three: Three, quantiser: Quantiser, held: &[i16], settings: &[Settings; 3], costs: &Costs) {
         for run in 0..16 {
-            let mut buffer = held.clone();
-            let coded = sub_block(&mut buffer, 2, &settings, run, false, true, &FLAT).unwrap();
-            let mut alone = held.clone();
+            let mut buffer = held.to_vec();
+            let coded = three(&mut buffer, 2, settings, run, false, true, costs).unwrap();
+            let mut alone = held.to_vec();
             for (k, (component, start, side)) in [(Component::Y, 0, 2), (Component::U, 16, 1), (Component::V, 20, 1)].into_iter().enumerate() {
                 let mut expected = Coded { count: 0, price: 0 };
                 if run >> k & 1 == 1 {
                     let part = &mut alone[start..start + (1 << (2 * side))];
                     transform(part, side, side).unwrap();
-                    expected = quantise(part, side, component, settings[k], false, true, &FLAT).unwrap();
+                    expected = quantiser(part, side, component, settings[k], false, true, costs).unwrap();
                 }
                 assert_eq!(coded[k], expected);
             }
@@ -281,14 +456,16 @@ mod tests {
 
     #[test]
     fn nothing_is_written_before_all_have_passed() {
-        let mut held = vec![100; 24];
-        held[20] = 1024;
-        let mut buffer = held.clone();
-        let settings = [Settings { qp: 4, lambda: 0.5 }; 3];
-        let refused = sub_block(&mut buffer, 2, &settings, 7, true, true, &FLAT);
-        assert_eq!(refused, Err(Refused { refusal: Refusal::Sample, component: Component::V }));
-        assert_eq!(buffer, held);
-        assert!(sub_block(&mut buffer, 2, &settings, 3, true, true, &FLAT).is_ok());
-        assert_eq!(buffer[20..], held[20..]);
+        for three in [sub_block as Three, sub_block_least] {
+            let mut held = vec![100; 24];
+            held[20] = 1024;
+            let mut buffer = held.clone();
+            let settings = [Settings { qp: 4, lambda: 0.5 }; 3];
+            let refused = three(&mut buffer, 2, &settings, 7, true, true, &FLAT);
+            assert_eq!(refused, Err(Refused { refusal: Refusal::Sample, component: Component::V }));
+            assert_eq!(buffer, held);
+            assert!(three(&mut buffer, 2, &settings, 3, true, true, &FLAT).is_ok());
+            assert_eq!(buffer[20..], held[20..]);
+        }
     }
 }
