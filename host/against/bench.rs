@@ -1,10 +1,10 @@
-//! Times the calls beside the Rust's release build, in one process: nanoseconds a call, the best of several rounds, with what the copy
-//! of the input takes off.
+//! Times the calls beside the Rust's release build, and the second mode beside the walk, in one process: nanoseconds a call, the best of
+//! several rounds, with what the copy of the input takes off; and how much the second mode saves. `bench [transform|quantise|least]`.
 
 mod blocks;
 mod recorder;
 use blocks::Random;
-use galemosu::{quantise, transform, Component, Costs, Settings};
+use galemosu::{quantise, quantise_least, transform, Component, Costs, Settings};
 use std::time::Instant;
 
 const ROUNDS: usize = 9;
@@ -27,9 +27,17 @@ fn best(blocks: &[Vec<i16>], repeat: usize, mut call: impl FnMut(&mut [i16])) ->
 }
 
 fn main() {
-    transforms();
-    quantisers();
+    let tables: [(&str, fn()); 4] = [("transform", transforms), ("quantise", quantisers), ("least", modes), ("least", savings)];
+    let asked = std::env::args().nth(1);
+    let wanted: Vec<fn()> = tables.iter().filter(|(name, _)| asked.as_ref().is_none_or(|word| word == name)).map(|(_, table)| *table).collect();
+    if wanted.is_empty() {
+        eprintln!("usage: bench [transform|quantise|least]");
+        std::process::exit(2);
+    }
+    wanted.into_iter().for_each(|table| table());
 }
+
+const COSTS: Costs = Costs { run: recorder::RUN, level: recorder::LEVEL, last: recorder::LAST, cbf: recorder::CBF };
 
 fn transforms() {
     let mut random = Random::new(7);
@@ -52,15 +60,14 @@ fn transforms() {
 }
 
 fn quantisers() {
-    let costs = Costs { run: recorder::RUN, level: recorder::LEVEL, last: recorder::LAST, cbf: recorder::CBF };
-    let flat: Vec<i32> = [&costs.run[..], &costs.level, &costs.last, &costs.cbf].concat().iter().map(|x| *x as i32).collect();
+    let flat: Vec<i32> = [&COSTS.run[..], &COSTS.level, &COSTS.last, &COSTS.cbf].concat().iter().map(|x| *x as i32).collect();
     let settings = Settings { qp: recorder::QP, lambda: recorder::LAMBDA };
     println!("\n| side | blocks | nonzero levels | Rust ns | Galemosu ns | times as fast |");
     println!("|---|---|---|---|---|---|");
     for (log2, kind, mut blocks) in recorder::blocks() {
         blocks.iter_mut().for_each(|b| transform(b, log2, log2).unwrap());
         let repeat = 200_000 / blocks[0].len() + 20;
-        let ours = |b: &mut [i16]| quantise(b, log2, Component::Y, settings, true, true, &costs).unwrap();
+        let ours = |b: &mut [i16]| quantise(b, log2, Component::Y, settings, true, true, &COSTS).unwrap();
         let levels: u32 = blocks.iter().map(|b| ours(&mut b.clone()).count).sum();
         let copy = best(&blocks, repeat, |_| {});
         let rust = best(&blocks, repeat, |b| {
@@ -72,4 +79,64 @@ fn quantisers() {
         }) - copy;
         println!("| {} | {kind} | {} | {rust:.0} | {mine:.0} | {:.2} |", 1 << log2, levels / recorder::BLOCKS as u32, rust / mine);
     }
+}
+
+/// The second mode beside the walk, on the blocks of the quantiser's table.
+fn modes() {
+    let settings = Settings { qp: recorder::QP, lambda: recorder::LAMBDA };
+    println!("\n| side | blocks | nonzero levels | walk ns | least ns | least / walk |");
+    println!("|---|---|---|---|---|---|");
+    for (log2, kind, mut blocks) in recorder::blocks() {
+        blocks.iter_mut().for_each(|b| transform(b, log2, log2).unwrap());
+        let repeat = 200_000 / blocks[0].len() + 20;
+        let walk = |b: &mut [i16]| quantise(b, log2, Component::Y, settings, true, true, &COSTS).unwrap();
+        let least = |b: &mut [i16]| quantise_least(b, log2, Component::Y, settings, true, true, &COSTS).unwrap();
+        let levels: u32 = blocks.iter().map(|b| least(&mut b.clone()).count).sum();
+        let copy = best(&blocks, repeat, |_| {});
+        let [walked, searched] = [&walk as &dyn Fn(&mut [i16]) -> _, &least].map(|call| {
+            best(&blocks, repeat, |b| {
+                std::hint::black_box(call(b));
+            }) - copy
+        });
+        println!("| {} | {kind} | {} | {walked:.0} | {searched:.0} | {:.2} |", 1 << log2, levels / recorder::BLOCKS as u32, searched / walked);
+    }
+}
+
+/// How many blocks each row of the savings is about.
+const SAVED: usize = 500;
+
+/// What the second mode saves of the walk's price on a label's strokes, at a quarter of the usual lambda, at it, and at four times it.
+fn savings() {
+    println!("\n| side | blocks | lambda | other levels than the walk's | saved of its price, mean | most |");
+    println!("|---|---|---|---|---|---|");
+    let mut random = Random::new(13);
+    for log2 in 2..=5 {
+        let (w, n) = (1usize << log2, 1usize << (2 * log2));
+        for (kind, one) in [("soft text", Random::soft_text as fn(&mut Random, usize, usize) -> Vec<i16>), ("sharp text", Random::text)] {
+            let mut blocks: Vec<Vec<i16>> = (0..SAVED).map(|_| one(&mut random, w, n)).collect();
+            blocks.iter_mut().for_each(|b| transform(b, log2, log2).unwrap());
+            for lambda in [recorder::LAMBDA / 4.0, recorder::LAMBDA, recorder::LAMBDA * 4.0] {
+                let (others, saved) = saving(log2, lambda, &blocks);
+                let most = saved.iter().copied().fold(0.0, f64::max);
+                let mean = saved.iter().sum::<f64>() / SAVED as f64;
+                println!("| {w} | {kind} | {lambda:.1} | {:.1} % | {mean:.3} % | {most:.2} % |", 100.0 * others as f64 / SAVED as f64);
+            }
+        }
+    }
+}
+
+/// How many blocks the two modes leave with other levels, and the percentage that the second saves of each block's price.
+fn saving(log2: usize, lambda: f64, blocks: &[Vec<i16>]) -> (usize, Vec<f64>) {
+    let settings = Settings { qp: recorder::QP, lambda };
+    let mut others = 0;
+    let saved = |block: &Vec<i16>| {
+        let (mut walked, mut searched) = (block.clone(), block.clone());
+        let walk = quantise(&mut walked, log2, Component::Y, settings, true, true, &COSTS).unwrap().price;
+        let least = quantise_least(&mut searched, log2, Component::Y, settings, true, true, &COSTS).unwrap().price;
+        others += (walked != searched) as usize;
+        // a skipped block has the price 0 in both
+        if walk == 0 { 0.0 } else { 100.0 * (walk - least) as f64 / walk as f64 }
+    };
+    let saved = blocks.iter().map(saved).collect();
+    (others, saved)
 }

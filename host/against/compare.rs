@@ -1,9 +1,11 @@
 //! Holds the three calls against the Rust that they were ported from, built with overflow checks, and against document 01 worked out
-//! apart (paper.rs): `compare transform|quantise|sub_block|all [N]`, N random accepted calls of each. Status 0 when nothing differed
-//! and all that must come has come.
+//! apart (paper.rs), and the second mode of two of them against the cheapest block found apart (least.rs):
+//! `compare transform|quantise|sub_block|least|all [N]`, N random accepted calls of each. Status 0 when nothing differed and all that must
+//! come has come.
 
 mod blocks;
 mod calls;
+mod least;
 mod limits;
 mod order;
 mod paper;
@@ -20,6 +22,8 @@ use tally::Tally;
 type Comparison = (&'static str, fn(u64) -> Tally, u64);
 const COMPARISONS: [Comparison; 3] =
     [("transform", transform::compare, 300_000), ("quantise", quantise::compare, 450_000), ("sub_block", sub_block::compare, 250_000)];
+/// The second mode, which the Rust has not.
+const LEAST: Comparison = ("least", least::compare, 120_000);
 
 pub fn fault_of(refused: Refused) -> Fault {
     (refused.refusal as u32, refused.component as usize)
@@ -50,6 +54,11 @@ fn main() {
         refused += tally.refused;
         different += tally.different;
     }
-    println!("in all: {both} accepted through both, {beyond} past the Rust's 32-bit rate, {refused} refused, {different} different");
+    if what != LEAST.0 {
+        println!("in all: {both} accepted through both, {beyond} past the Rust's 32-bit rate, {refused} refused, {different} different");
+    }
+    if what == "all" || what == LEAST.0 {
+        good &= LEAST.1(number.unwrap_or(LEAST.2)).report();
+    }
     std::process::exit(!good as i32);
 }

@@ -83,7 +83,8 @@ impl Block<'_> {
         (coefficient as i128).abs() * self.q()
     }
 
-    fn rounded(&self, coefficient: i16) -> i128 {
+    /// m, of a coefficient.
+    pub fn rounded(&self, coefficient: i16) -> i128 {
         (self.scaled(coefficient) + (1 << (self.bits() - 1))) >> self.bits()
     }
 
@@ -110,7 +111,7 @@ impl Block<'_> {
     }
 
     /// D, the squares of the block left uncoded.
-    fn uncoded(&self) -> i128 {
+    pub fn uncoded(&self) -> i128 {
         self.coefficients.iter().map(|c| self.square(*c, 0)).sum()
     }
 
@@ -147,7 +148,8 @@ impl Block<'_> {
         self.rate(false, self.most()).max(self.rate(true, self.most()))
     }
 
-    fn cbf(&self, coded: usize) -> i128 {
+    /// What the flag of a coded block costs, or that of an empty one.
+    pub fn cbf(&self, coded: usize) -> i128 {
         let pair = match self.component {
             Component::Y => self.intra_coded as usize,
             Component::U => 2,
@@ -156,12 +158,14 @@ impl Block<'_> {
         whole(self.lambda) * self.costs.cbf[2 * pair + coded] as i128
     }
 
-    fn last(&self, ends: usize) -> i128 {
+    /// What the flag behind a nonzero level costs, of the last one or another.
+    pub fn last(&self, ends: usize) -> i128 {
         let row = if self.component == Component::Y { 0 } else { 1 };
         whole(self.lambda) * self.costs.last[2 * row + ends] as i128
     }
 
-    fn cost(&self, place: usize, after_zero: bool, a: i128) -> i128 {
+    /// What a magnitude costs at a place.
+    pub fn cost(&self, place: usize, after_zero: bool, a: i128) -> i128 {
         self.square(self.coefficients[place], a) + whole(self.lambda) * self.rate(after_zero, a)
     }
 

@@ -7,7 +7,9 @@ use std::fmt::Debug;
 
 pub struct Tally {
     name: &'static str,
-    /// Accepted calls that went through both.
+    /// What the accepted calls went through.
+    pub beside: &'static str,
+    /// Accepted calls that went through both, the library and what it is held against.
     pub both: u64,
     /// Accepted calls that the Rust has no answer to: its 32-bit rate overflows.
     pub beyond: u64,
@@ -23,7 +25,7 @@ impl Tally {
     pub fn new(name: &'static str, refusals: &[(u32, &[usize])], kinds: &[(&'static str, usize)]) -> Tally {
         let refusals = refusals.iter().flat_map(|(number, components)| components.iter().map(|k| ((*number, *k), 0))).collect();
         let kinds = kinds.iter().map(|(kind, values)| (*kind, vec![0; *values])).collect();
-        Tally { name, both: 0, beyond: 0, refused: 0, different: 0, refusals, kinds }
+        Tally { name, beside: "through both", both: 0, beyond: 0, refused: 0, different: 0, refusals, kinds }
     }
 
     /// Whether fewer calls than these have come, or fewer refused ones than one for eight of them.
@@ -55,7 +57,7 @@ impl Tally {
     /// Prints what came; whether nothing differed and nothing is missing.
     pub fn report(&self) -> bool {
         let beyond = if self.beyond == 0 { String::new() } else { format!(" ({} more are past the Rust's 32-bit rate)", self.beyond) };
-        println!("{}: {} accepted through both{beyond}, {} refused, {} different", self.name, self.both, self.refused, self.different);
+        println!("{}: {} accepted {}{beyond}, {} refused, {} different", self.name, self.both, self.beside, self.refused, self.different);
         let mut numbers: BTreeMap<u32, Vec<String>> = BTreeMap::new();
         for ((number, component), times) in &self.refusals {
             numbers.entry(*number).or_default().push(format!("{} {times}", ["Y", "U", "V"][*component]));
