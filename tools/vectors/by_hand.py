@@ -697,8 +697,8 @@ def most_samples():
 
 
 def long_lines():
-    """The longest request of the first mode that can be read has 58,083 bytes. A longer line is passed over to its end, and gets one answer: what stands in it
-    behind the first 65,535 bytes, or any other number, is no request."""
+    """The longest request of the first mode that can be read has 58,083 bytes. A longer line is passed over to its end, and gets one answer: what
+    stands in it behind the first 65,535 bytes, or any other number, is no request."""
     most = 2 ** 32 - 1
     yield subblock([-32768] * 8192, 2 ** 64 - 1, most, (most,) * 3, (NAN,) * 3, most, most, [2 ** 64 - 1] * 28)
     good = GOOD[b"transform"]
