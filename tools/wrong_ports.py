@@ -1,8 +1,9 @@
 """wrong_ports.py [--all] [WORDS ..]: which plausible wrong ports the recorded answers catch.
 
 A wrong port is tools/paper.py with one rule changed. Each answers the stored requests of `tq` and `replay`; printed are how many answers it
-gets wrong in each file (counted to 10, with --all to the end) and the request that catches it first. With WORDS, only ports whose names have one of
-them. Status 1 if a wrong port is caught by neither file, or if the paper itself, or a port that can't differ, gets an answer wrong.
+gets wrong in each file (counted to 10, with --all to the end) and the request that catches it first. A port that is wrong in the second mode alone is
+asked requests of that mode alone. With WORDS, only ports whose names have one of them. Status 1 if a wrong port is caught by neither file, or if
+the paper itself, or a port that can't differ, gets an answer wrong.
 """
 import copy, fractions, itertools, math, multiprocessing, os, struct, sys
 from paper import Block, Costs, Malformed, Paper, Refused, U, V, Words, Y
@@ -612,8 +613,8 @@ def any_verb_with_least(paper, words):
 second("0 after m at equal price", in_order=nonzero_first)
 second("m before m-1 at equal price", in_order=lambda s, m: [0] + Paper.in_order(s, m)[:0:-1])
 second("going on before ending at equal price", goes_on=lambda s, block, p, ahead: s.going_on(block, ahead) <= s.ending(block, p))
-second("a coded block before the empty one at equal price", is_coded=lambda s, block, ahead: s.lambda_flag(block) + ahead[1] <= block.empty_price(),
-       lambda_flag=lambda s, block: block.lambda_ * block.cbf[1])
+second("a coded block before the empty one at equal price",
+       is_coded=lambda s, block, ahead: block.lambda_ * block.cbf[1] + ahead[1] <= block.empty_price())
 second("the last in dictionary order", in_order=lambda s, m: Paper.in_order(s, m)[::-1],
        goes_on=lambda s, block, p, ahead: s.going_on(block, ahead) <= s.ending(block, p))
 second("forwards, a 0 last at equal price", cheapest=place_by_place(1))
