@@ -1,6 +1,6 @@
 -- A list that a loop fills from the front, one store a turn; when all is stored it is the list that was meant.
 -- Assumes nothing.
-use mathlib.Core.Path.{_≡_, _∙_, sym}
+use mathlib.Core.Path.{_≡_, _∙_}
 use mathlib.Core.List.{List}
 use mathlib.Core.Logic.{_≢_}
 use Prim.Native.Nat.{ℕ, _+_, _<_, _≤_}

@@ -1,10 +1,10 @@
 -- The lemma of every butterfly. A row of weights that reads the same from both ends meets the sums of the values that stand
 -- equally far from the two ends; one that changes its sign, the differences: half as many products do.
 -- Assumes nothing.
-use mathlib.Core.Path.{_≡_, refl, sym, _∙_, ap}
+use mathlib.Core.Path.{_≡_, sym, _∙_, ap}
 use Prim.Native.Nat.{ℕ, _+_, _-_, _<_}
-use lib.IntN.{ℤ, pos, negℤ, _+ℤ_, _-ℤ_, _*ℤ_, *ℤ-zero}
-use Rattle.integers.specs.Sum.{sum, onℤ, sumℤ}
+use lib.IntN.{ℤ, negℤ, _+ℤ_, _-ℤ_, _*ℤ_, *ℤ-zero}
+use Rattle.integers.specs.Sum.{onℤ, sumℤ}
 use Rattle.integers.proofs.Ring.{dist-left, neg-*, *-neg}
 use Rattle.integers.proofs.Sums.{ints, sum-ext, sum-halves, sum-map}
 

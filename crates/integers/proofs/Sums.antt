@@ -6,7 +6,7 @@ use Prim.Native.Nat.{ℕ, zero, suc, _+_, _-_, _<_}
 use native.Mathlib.Nat.{add-suc, add-zero, add-assoc, add-comm, zero-add}
 use native.Mathlib.Numerals.{add-one}
 use native.Mathlib.Omega.{arith}
-use lib.IntN.{ℤ, +ℤ-idl, +ℤ-assoc, +ℤ-comm}
+use lib.IntN.{+ℤ-idl, +ℤ-assoc, +ℤ-comm}
 use Rattle.integers.specs.Sum.{Addition, sum, onℤ, onℕ}
 
 pub record Lawful {A : Type 0} (o : Addition A) : Type 0 where

@@ -4,9 +4,9 @@ use mathlib.Core.Path.{_≡_, refl, _∙_, subst, sym, ap}
 use mathlib.Core.Logic.{⊎-elim}
 use mathlib.Core.Bool.{Bool, true, false, _&&_, _||_, true≢false}
 use mathlib.Core.List.{List, [], _∷_}
-use Prim.Native.Nat.{ℕ, zero, suc, _+_, _<_, _≤_}
+use Prim.Native.Nat.{ℕ, zero, suc, _+_, _<_}
 use native.Mathlib.Nat.{add-zero, zero-add, add-suc, suc-add, le-of-suc-le-suc, not-suc-le-zero, eq-or-lt-of-le}
-use lib.Dec.{T, eqb, eqb→eq, leb, leb→le}
+use lib.Dec.{T, eqb, eqb→eq}
 use lib.ListN.{length, getD}
 use lib.IntN.{ℤ, pos, negsuc}
 use mir.Facts.{and-yes}

@@ -1,7 +1,7 @@
 -- The page's count of other fates is 0 for every block that the quantiser accepts: a level is its rounded magnitude, one less, or 0. It is what
 -- demand 3 says of the call, in the page's words.
 -- Assumes nothing.
-use mathlib.Core.Path.{_≡_, refl, sym, _∙_, ap}
+use mathlib.Core.Path.{_≡_, refl, ap}
 use mathlib.Core.Logic.{_⊎_, inl, inr, ⊎-elim}
 use mathlib.Core.Bool.{Bool, true, false, cond}
 use Prim.Native.Nat.{ℕ, suc, _+_, _<_}

@@ -1,8 +1,8 @@
 -- What accepted cost tables have: every entry is in range, and so a rate is at most one largest entry for each unit of the
 -- magnitude and two more. Later bounds of prices rest on it.
 -- Assumes nothing.
-use mathlib.Core.Path.{_≡_, refl}
-use mathlib.Core.Bool.{Bool, true, false, true≢false, _||_}
+use mathlib.Core.Path.{_≡_}
+use mathlib.Core.Bool.{Bool, false, _||_}
 use mathlib.Core.List.{List, [], _∷_}
 use Prim.Native.Nat.{ℕ, zero, suc, _+_, _*_, _≤_, zero-le}
 use native.Mathlib.Nat.{mul-le-mul-left}

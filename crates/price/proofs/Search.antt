@@ -223,8 +223,3 @@ pub quiet-ahead : (r : Rule) (ps : List ℕ) → Quiet r ps → (z : Bool) → a
 unfolding leastBy withZero plus
 quiet-ahead r [] q z = ahead-none r z
 quiet-ahead r (p ∷ ps) q z = ahead-at r z p ps ∙ rw (q 0 (omega arith), quiet-ahead r ps (λ k h. q (suc k) (omega arith)) true)
-
-pub quiet-readOff : (r : Rule) (ps : List ℕ) → Quiet r ps → (z : Bool) → readOff r z ps ≡ emptyBlock ps
-unfolding readOff emptyBlock taken takenBy
-quiet-readOff r [] q z = refl
-quiet-readOff r (p ∷ ps) q z = rw (q 0 (omega arith), quiet-readOff r ps (λ k h. q (suc k) (omega arith)) true)

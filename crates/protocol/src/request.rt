@@ -79,7 +79,9 @@ pub fn read_head(verb: Verb, line: &[u8], at: usize, fields: &mut [u64; 40]) -> 
 {
     match verb {
         Verb::Transform => read_fields(line, at, b"ww", fields),
-        Verb::Quantise(_) => { read_fields(line, at, b"cwixiiwwwwwwwwwwwwwwwwwwwwwwwwwwww", fields) }
+        Verb::Quantise(_) => {
+            read_fields(line, at, b"cwixiiwwwwwwwwwwwwwwwwwwwwwwwwwwww", fields)
+        }
         Verb::SubBlock(_) => {
             read_fields(line, at, b"wiixixixiiwwwwwwwwwwwwwwwwwwwwwwwwwwww", fields)
         }

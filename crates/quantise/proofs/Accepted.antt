@@ -1,18 +1,18 @@
 -- What an accepted call says of its inputs: none of its faults holds.
 -- Assumes nothing.
 use mathlib.Core.Path.{_≡_}
-use mathlib.Core.Bool.{true, false, not, _||_}
-use Prim.Native.Nat.{ℕ, suc, _*_, _^_, _≤_}
+use mathlib.Core.Bool.{true, false, not}
+use Prim.Native.Nat.{suc, _*_, _^_, _≤_}
 use borrow.Author.Tests.{ltb-false}
 use lib.Dec.{ltb}
 use lib.ListN.{length}
 use Rattle.integers.proofs.Tests.{neither, not-both}
 use Rattle.refusals.specs.Faults.{outside, accepted}
-use Rattle.refusals.proofs.First.{None, head-fails, rest-fails, no-fault-if-accepted, inside}
+use Rattle.refusals.proofs.First.{head-fails, rest-fails, no-fault-if-accepted, inside}
 use Rattle.price.specs.Lambda.{lambdaRefused}
 use Rattle.price.specs.Costs.{costRefused}
 use Rattle.quantise.specs.Block.{Quant, area, lambdaHere, isSkipped}
-use Rattle.quantise.specs.Call.{quantFaults, quantVerdict, sideFault, qpFault, lambdaFault, costFault, lengthFault, sampleFault, levelFault, priceFault, distortionFault, largestHere, uncodedHere}
+use Rattle.quantise.specs.Call.{quantFaults, quantVerdict, sideFault, qpFault, lambdaFault, costFault, lengthFault, levelFault, priceFault, distortionFault, largestHere, uncodedHere}
 
 -- the last three are of a walked block
 pub record Accepted (c : Quant) : Type 0 where

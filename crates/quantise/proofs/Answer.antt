@@ -3,7 +3,7 @@
 use mathlib.Core.Path.{_≡_, refl, sym, ap, subst, fun-ext, _∙_}
 use mathlib.Core.Bool.{Bool, true, false, not, _||_}
 use mathlib.Core.List.{List, [], _∷_, map}
-use Prim.Native.Nat.{ℕ, zero, suc, _+_, _-_, _*_, _/_, _^_, _≤_, _<_, max}
+use Prim.Native.Nat.{ℕ, zero, suc, _+_, _*_, _/_, _^_, _≤_, _<_, max}
 use native.Mathlib.Omega.{arith}
 use lib.Dec.{leb, ltb}
 use lib.Pow.{pow-pos}
@@ -30,7 +30,6 @@ use Rattle.price.specs.Level.{shiftOf, scaled, magnitude, distortion, threshold
 use Rattle.price.specs.Costs.{costRefused, rate}
 use Rattle.price.specs.Rule.{Rule}
 use Rattle.price.specs.Price.{uncoded, nonzeros, price}
-use Rattle.price.specs.Walk.{written}
 use Rattle.quantise.specs.declared.Coded.{Coded}
 use Rattle.rule.specs.declared.scale.Scale.{Scale}
 use Rattle.rule.specs.declared.prices.Prices.{Prices}

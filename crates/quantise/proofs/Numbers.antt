@@ -12,8 +12,10 @@ use lib.Ieee.{Float, fin, nan}
 use Rattle.refusals.specs.declared.Component.the-variants.{Y, U, «V»}
 use Rattle.price.specs.declared.Costs.{Costs}
 use Rattle.price.specs.declared.Settings.{Settings}
+use Rattle.quantise.specs.declared.Mode.{Mode}
+use Rattle.quantise.specs.declared.Mode.the-variants.{Walk, Least}
 use Rattle.quantise.specs.Block.{Quant, called, calledIn, isSkipped}
-use Rattle.quantise.specs.Call.{Outcome, coded, refusedWith, quantAnswer, quantBuffer}
+use Rattle.quantise.specs.Call.{coded, refusedWith, quantAnswer, quantBuffer}
 
 -- n, and -n
 abbrev pub p : ℕ → ℤ
@@ -129,6 +131,42 @@ pub own :
     3 62390528 (p 1 ∷ m 2 ∷ p 2 ∷ p 0 ∷ [])
 unfolding calledIn quantAnswer quantBuffer
 own = ((refl, refl), (refl, refl), (refl, refl), (refl, refl), (refl, refl), (refl, refl), (refl, refl), (refl, refl), (refl, refl), (refl, refl))
+
+-- the cheapest block of all, beside the walk's of the same call
+abbrev Both : (called : Mode → Quant) → (walked least : Quant → Type 0) → Type 0
+Both called walked least = walked (called Walk) × least (called Least)
+
+pub least :
+    -- it keeps two levels more than the walk, and is cheaper
+    Both
+    (λ mode. calledIn mode (p 7 ∷ p 7 ∷ p 24 ∷ p 0 ∷ []) 1 «V» (at 0 (parts 512)) true false
+    (tables (32768 ∷ 1 ∷ 8192 ∷ 2 ∷ 0 ∷ 0 ∷ 65536 ∷ 0 ∷ []) (32768 ∷ 1 ∷ 8192 ∷ 2 ∷ 2 ∷ 1 ∷ 2 ∷ 16384 ∷ []) (8192 ∷ 16384 ∷ 1 ∷ 1 ∷ []) (1 ∷ 1 ∷ 1 ∷ 0 ∷ 32768 ∷ 16384 ∷ 8192 ∷ 32768 ∷ [])))
+    (λ c. Gives c 1 96976899 (p 0 ∷ p 0 ∷ p 2 ∷ p 0 ∷ []))
+    (λ c. Gives c 3 76028931 (p 1 ∷ p 1 ∷ p 2 ∷ p 0 ∷ []))
+    -- it is as dear, and earlier in dictionary order: 0 before m
+    × Both
+    (λ mode. calledIn mode (m 24 ∷ p 12 ∷ p 20 ∷ p 20 ∷ []) 1 U (at 10 (parts 512)) false true
+    (tables (0 ∷ 0 ∷ 0 ∷ 0 ∷ 65536 ∷ 8192 ∷ 8192 ∷ 0 ∷ []) (2 ∷ 65536 ∷ 2 ∷ 0 ∷ 16384 ∷ 1 ∷ 1 ∷ 32768 ∷ []) (1 ∷ 32768 ∷ 32768 ∷ 16384 ∷ []) (32768 ∷ 16384 ∷ 1 ∷ 16384 ∷ 2 ∷ 1 ∷ 2 ∷ 65536 ∷ [])))
+    (λ c. Gives c 2 314573312 (m 1 ∷ p 0 ∷ p 1 ∷ p 0 ∷ []))
+    (λ c. Gives c 2 314573312 (m 1 ∷ p 0 ∷ p 0 ∷ p 1 ∷ []))
+    -- m - 1 before m
+    × Both
+    (λ mode. calledIn mode (p 8 ∷ m 24 ∷ p 20 ∷ p 7 ∷ []) 1 Y (at 4 (parts 4)) false false
+    (tables (65536 ∷ 8192 ∷ 2 ∷ 1 ∷ 8192 ∷ 16384 ∷ 65536 ∷ 1 ∷ []) (16384 ∷ 8192 ∷ 8192 ∷ 32768 ∷ 32768 ∷ 2 ∷ 8192 ∷ 2 ∷ []) (2 ∷ 8192 ∷ 8192 ∷ 1 ∷ []) (0 ∷ 8192 ∷ 65536 ∷ 16384 ∷ 1 ∷ 32768 ∷ 8192 ∷ 65536 ∷ [])))
+    (λ c. Gives c 2 51347472 (p 0 ∷ m 2 ∷ p 1 ∷ p 0 ∷ []))
+    (λ c. Gives c 2 51347472 (p 0 ∷ m 1 ∷ p 1 ∷ p 0 ∷ []))
+    -- ending before going on
+    × Both
+    (λ mode. calledIn mode (p 8 ∷ m 16 ∷ m 40 ∷ p 8 ∷ []) 1 «V» (at 4 (parts 0)) true false
+    (tables (1 ∷ 0 ∷ 32768 ∷ 0 ∷ 8192 ∷ 1 ∷ 16384 ∷ 65536 ∷ []) (0 ∷ 0 ∷ 8192 ∷ 8192 ∷ 16384 ∷ 32768 ∷ 32768 ∷ 0 ∷ []) (0 ∷ 32768 ∷ 65536 ∷ 8192 ∷ []) (32768 ∷ 8192 ∷ 0 ∷ 65536 ∷ 2 ∷ 32768 ∷ 2 ∷ 16384 ∷ [])))
+    (λ c. Gives c 2 50331648 (p 0 ∷ m 1 ∷ m 3 ∷ p 0 ∷ []))
+    (λ c. Gives c 2 50331648 (p 0 ∷ m 1 ∷ m 2 ∷ p 0 ∷ []))
+    -- the quick skip goes first in both
+    × Both (λ mode. calledIn mode (p 9 ∷ p 0 ∷ p 0 ∷ p 0 ∷ []) 1 Y (at 4 usual) true true (flat 32768))
+    (λ c. Gives c 0 0 (p 0 ∷ p 0 ∷ p 0 ∷ p 0 ∷ []))
+    (λ c. Gives c 0 0 (p 0 ∷ p 0 ∷ p 0 ∷ p 0 ∷ []))
+unfolding calledIn quantAnswer quantBuffer
+least = (((refl, refl), (refl, refl)), ((refl, refl), (refl, refl)), ((refl, refl), (refl, refl)), ((refl, refl), (refl, refl)), ((refl, refl), (refl, refl)))
 
 -- several faults at once: the first of the list decides, and names the component where it belongs to one
 pub order :

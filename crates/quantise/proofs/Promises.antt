@@ -5,10 +5,10 @@ use mathlib.Core.Path.{_≡_, refl, sym, _∙_, ap, subst}
 use mathlib.Core.Logic.{_⊎_, inl, inr, ⊎-elim}
 use mathlib.Core.Bool.{Bool, true, false, not, cond}
 use mathlib.Core.List.{List, [], _∷_, map}
-use Prim.Native.Nat.{ℕ, zero, suc, _*_, _^_, _≤_, _<_}
+use Prim.Native.Nat.{ℕ, zero, suc, _^_, _≤_, _<_}
 use native.Mathlib.Nat.{not-suc-le-zero, le-of-suc-le-suc, one-le-pow}
 use native.Mathlib.Omega.{arith}
-use borrow.Author.Tests.{leb-false, lt-leb, not-true, not-false}
+use borrow.Author.Tests.{leb-false, lt-leb, not-true}
 use lib.Dec.{leb, lit≤}
 use lib.ListN.{length, getD, drop, length-map}
 use lib.Seq.{ext-getD}
@@ -31,8 +31,8 @@ use Rattle.price.proofs.Blocks.{Block}
 use Rattle.price.proofs.Cheapest.{none-cheaper, none-earlier, never-dearer-than-the-walk}
 use Rattle.quantise.specs.declared.Mode.{Mode}
 use Rattle.quantise.specs.declared.Mode.the-variants.{Walk, Least}
-use Rattle.quantise.specs.Block.{Quant, area, scaleHere, shiftHere, ruleOf, blockPlaces, scanned, places, isSkipped, writtenIn, magnitudes, signs, laid, countOf, priceOf, quantised}
-use Rattle.quantise.specs.Call.{Outcome, coded, quantVerdict, quantAnswer, quantBuffer}
+use Rattle.quantise.specs.Block.{Quant, area, scaleHere, shiftHere, ruleOf, blockPlaces, scanned, places, isSkipped, writtenIn, magnitudes, signs, priceOf, quantised}
+use Rattle.quantise.specs.Call.{coded, quantVerdict, quantAnswer, quantBuffer}
 use Rattle.quantise.proofs.Modes.{length-written, zero-or-m-or-m-1}
 use Rattle.quantise.proofs.Laid.{laid-on-scan, surplus-kept}
 use Rattle.quantise.proofs.Accepted.{Accepted, no-fault}

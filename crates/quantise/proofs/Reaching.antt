@@ -4,11 +4,11 @@ use mathlib.Core.Path.{_≡_, refl, sym, ap, _∙_}
 use mathlib.Core.Logic.{⊎-elim}
 use mathlib.Core.Bool.{Bool, true, false, _||_}
 use mathlib.Core.List.{List, [], _∷_}
-use Prim.Native.Nat.{ℕ, zero, suc, _-_, _*_, _≤_, _<_, max}
-use native.Mathlib.Nat.{mul-le-mul-right, max-eq-left, max-eq-right, div-eq-of-lt, le-max-left, le-max-right}
+use Prim.Native.Nat.{ℕ, zero, suc, _*_, _≤_, _<_, max}
+use native.Mathlib.Nat.{mul-le-mul-right, max-eq-left, max-eq-right, le-max-left, le-max-right}
 use native.Mathlib.Omega.{arith}
 use lib.Dec.{leb}
-use lib.Pow.{shr-mono, pow-lt}
+use lib.Pow.{shr-mono}
 use lib.IntN.{ℤ, pos, negsuc, natAbs}
 use borrow.Author.Tests.{leb-true, leb-false, le-leb, lt-leb}
 use Rattle.integers.specs.Sum.{over, onMax, onOr}

@@ -2,25 +2,22 @@
 -- scan. The count does not depend on the order. Assumes nothing.
 use mathlib.Core.Path.{_≡_, refl, sym, ap, subst, _∙_}
 use mathlib.Core.Logic.{_⊎_, ⊎-elim}
-use mathlib.Core.List.{List, [], _∷_, map}
+use mathlib.Core.List.{List, [], _∷_}
 use Prim.Native.Nat.{ℕ, zero, suc, _+_, _*_, _≤_, _<_}
 use native.Mathlib.Nat.{not-suc-le-zero, le-of-suc-le-suc, eq-or-lt-of-le}
 use native.Mathlib.Numerals.{add-one}
 use native.Mathlib.Omega.{arith}
 use lib.ListN.{length, getD, set, length-set, length-map}
-use lib.Seq.{getD-set-same, getD-set-other, ext-getD, take-all}
+use lib.Seq.{getD-set-same, getD-set-other, ext-getD}
 use lib.IntN.{ℤ, pos}
-use Rattle.integers.specs.Sum.{at, over, onℕ}
-use Rattle.integers.proofs.Sums.{nats}
+use Rattle.integers.specs.Sum.{at}
 use Rattle.integers.proofs.Lists.{map-at}
 use Rattle.tables.specs.Scan.{scan, scanAt}
-use Rattle.tables.proofs.Order.{scan-hit, scan-over}
+use Rattle.tables.proofs.Order.{scan-hit}
 use Rattle.price.specs.Level.{signed}
-use Rattle.price.specs.Price.{nonzeros}
 use Rattle.quantise.specs.Block.{signs, laid}
 use Rattle.rule.specs.Places.{Scanned, Standing}
 use Rattle.quantise.specs.Code.{inOrder}
-use Rattle.price.proofs.Counting.{ones, nonzeros-over}
 use Rattle.quantise.proofs.Laid.{laid-length, laid-on-scan}
 
 -- ---- the levels by rows

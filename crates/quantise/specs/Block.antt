@@ -17,7 +17,7 @@ use Rattle.price.specs.Lambda.{lambdaOf}
 use Rattle.price.specs.Level.{shiftOf, scaled, magnitude, distortion, threshold, signed}
 use Rattle.price.specs.Costs.{Rows, entry, rate}
 use Rattle.price.specs.Rule.{Rule}
-use Rattle.price.specs.Price.{uncoded, nonzeros, price}
+use Rattle.price.specs.Price.{nonzeros, price}
 use Rattle.price.specs.Walk.{written}
 use Rattle.price.specs.Cheapest.{cheapest}
 use Rattle.rule.specs.Rows.{rowsOf}

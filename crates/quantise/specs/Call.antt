@@ -1,5 +1,5 @@
 -- `quant_nnz`: its nine faults in order, its answer, and what its buffer then holds, as functions of all its inputs.
-use mathlib.Core.Bool.{Bool, not, _&&_, _||_}
+use mathlib.Core.Bool.{not, _&&_, _||_}
 use mathlib.Core.List.{List, [], _∷_}
 use Prim.Native.Nat.{ℕ, suc, _*_, _^_}
 use lib.Dec.{ltb}

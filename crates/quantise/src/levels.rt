@@ -129,7 +129,14 @@ fn code_small(block: &mut [i16], log2_side: usize, p: Prices, g: Scale, d: u64, 
     )
 }
 
-fn code_middle(block: &mut [i16], log2_side: usize, p: Prices, g: Scale, d: u64, mode: Mode) -> Coded
+fn code_middle(
+    block: &mut [i16],
+    log2_side: usize,
+    p: Prices,
+    g: Scale,
+    d: u64,
+    mode: Mode,
+) -> Coded
     requires { ⌜ (1 ≤ «log2_side») × («log2_side» ≤ 4) × Codable p g (2 ^ «log2_side») (now block) d ⌝ }
     ensures { λ r. ⌜ CodedAs mode p g (2 ^ «log2_side») (now (block .entry)) (now (block .exit)) r ⌝ }
 {
@@ -171,7 +178,14 @@ fn code_large(block: &mut [i16], log2_side: usize, p: Prices, g: Scale, d: u64, 
     )
 }
 
-pub fn code_levels(block: &mut [i16], log2_side: usize, p: Prices, g: Scale, d: u64, mode: Mode) -> Coded
+pub fn code_levels(
+    block: &mut [i16],
+    log2_side: usize,
+    p: Prices,
+    g: Scale,
+    d: u64,
+    mode: Mode,
+) -> Coded
     requires { ⌜ (1 ≤ «log2_side») × («log2_side» ≤ 5) × Codable p g (2 ^ «log2_side») (now block) d ⌝ }
     ensures { λ r. ⌜ CodedAs mode p g (2 ^ «log2_side») (now (block .entry)) (now (block .exit)) r ⌝ }
 {

@@ -1,6 +1,5 @@
 // The square of a magnitude's error: its distortion.
 use crate::scale::Scale;
-ghost use mathlib.Core.Path.{_≡_};
 ghost use Prim.Native.Nat.{_≤_, _*_};
 ghost use Rattle.rule.specs.Scale.{Sound, Near, Distortion};
 

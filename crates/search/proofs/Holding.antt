@@ -12,6 +12,7 @@ use Rattle.price.specs.Rule.{cost}
 use Rattle.price.specs.Price.{uncoded}
 use Rattle.price.specs.Search.{Least, none, some, plus, under, lesser, withZero, takenBy, leastBy, taken, ahead}
 use Rattle.price.specs.Search as of-price
+use Rattle.price.proofs.Search.{quiet-ahead}
 use Rattle.rule.specs.declared.scale.Scale.{Scale}
 use Rattle.rule.specs.declared.prices.Prices.{Prices}
 use Rattle.rule.specs.Scale.{Sound}
@@ -109,19 +110,19 @@ module _ (p : Prices) (g : Scale) (s : Sound g) where
         rest = omega (arith, nothing-uncoded p g, k .rest);
       }
 
-  -- where nothing is kept at all there is no nonzero level to come
-  quiet : (ps : List ℕ) → ((k : ℕ) → k < length ps → getD ps k 0 ≡ 0)
-      → (ahead (ruleBy p g) ps .afterZero ≡ none) × (ahead (ruleBy p g) ps .afterLevel ≡ none) × (uncoded (ruleBy p g) ps ≡ 0)
-  unfolding ahead uncoded plus
-  quiet [] q = (refl, refl, refl)
-  quiet (L ∷ ps) q =
-      let l = quiet ps (λ k h. q (suc k) (omega arith)) in
-      let t = ahead (ruleBy p g) ps in
-      rw (q 0 (omega arith))
-      (passed-least true ps t ∙ ap (plus (p .zeros)) (l .0), passed-least false ps t ∙ ap (plus (p .zero)) (l .0), omega (arith, nothing-uncoded p g, l .2))
+  -- where nothing is kept at all there is no nonzero level to come, and nothing is left uncoded
+  none-uncoded : (ps : List ℕ) → ((k : ℕ) → k < length ps → getD ps k 0 ≡ 0) → uncoded (ruleBy p g) ps ≡ 0
+  unfolding uncoded
+  none-uncoded [] q = refl
+  none-uncoded (L ∷ ps) q =
+      rw (q 0 (omega arith)) (omega (arith, nothing-uncoded p g, none-uncoded ps (λ k h. q (suc k) (omega arith))))
 
   pub none-held : (n : ℕ) (ps : List ℕ) → ((k : ℕ) → k < length ps → getD ps k 0 ≡ 0)
       → Held p g n ps (record { zero = 2 ^ 63; level = 2 ^ 63; rest = 0 })
   none-held n ps q =
-      let l = quiet ps q in
-      record { zero = rw (l .0) (omega arith, omega arith); level = rw (l .1) (omega arith, omega arith); rest = sym (l .2) }
+      let none-ahead = quiet-ahead (ruleBy p g) ps (λ k h. ap ((ruleBy p g) .top) (q k h) ∙ nothing-top) in
+      record {
+        zero = rw (none-ahead true) (omega arith, omega arith);
+        level = rw (none-ahead false) (omega arith, omega arith);
+        rest = sym (none-uncoded ps q);
+      }

@@ -1,7 +1,7 @@
 -- What the functions of the search say to one another: least prices as code holds them, one place passed or weighed, what is chosen for
 -- each place, and the block that is read off. The search itself is specs/Search.antt of `price`.
 use mathlib.Core.Path.{_≡_}
-use mathlib.Core.Bool.{Bool, true, false, cond}
+use mathlib.Core.Bool.{true, false, cond}
 use mathlib.Core.List.{List}
 use Prim.Native.Nat.{ℕ, zero, suc, _+_, _-_, _*_, _^_, _≤_, _<_}
 use lib.Dec.{ltb}

@@ -1,6 +1,6 @@
 -- What a test that code makes says of a fault: of luma's log2 side, and of a component that is run or is not.
 -- Assumes nothing.
-use mathlib.Core.Path.{_≡_, refl, ap, _∙_}
+use mathlib.Core.Path.{_≡_, refl}
 use mathlib.Core.Bool.{Bool, true, false, not, _&&_, _||_, true≢false}
 use Prim.Native.Nat.{ℕ, _<_, _≤_}
 use borrow.Author.Tests.{lt-leb, le-leb}

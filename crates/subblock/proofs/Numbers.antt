@@ -6,12 +6,12 @@ use mathlib.Core.Bool.{true}
 use mathlib.Core.List.{List, [], _∷_, _++_}
 use Prim.Native.Nat.{ℕ}
 use lib.ListN.{replicate}
-use lib.IntN.{ℤ, pos}
+use lib.IntN.{ℤ}
 use lib.Ieee.{nan}
 use Rattle.price.specs.declared.Costs.{Costs}
 use Rattle.price.specs.declared.Settings.{Settings}
 use Rattle.quantise.proofs.Numbers.{p, m, parts, at, tables, flat, usual}
-use Rattle.subblock.specs.Call.{SubBlock, called, calledIn, Share, Outcome, coded, refusedWith, subBlockAnswer, subBlockBuffer}
+use Rattle.subblock.specs.Call.{SubBlock, called, calledIn, Share, coded, refusedWith, subBlockAnswer, subBlockBuffer}
 
 -- ---- three components, luma 4×4
 abbrev of : ℕ → ℕ → Share

@@ -20,7 +20,7 @@ use Rattle.subblock.specs.declared.Request.{Request}
 use Rattle.subblock.specs.declared.SubBlockAnswer.{SubBlockAnswer}
 use Rattle.subblock.specs.declared.SubBlockAnswer.the-variants as answers
 use Rattle.subblock.specs.Call as three
-use Rattle.subblock.specs.Parts.{Ready, partAnswer, partLeft, residuals, AllReady, joined, Parted, refusalOf}
+use Rattle.subblock.specs.Parts.{Ready, partAnswer, partLeft, residuals, AllReady, Parted, refusalOf}
 use Rattle.subblock.proofs.ThreeParts.{second-holds, third-holds, room-holds, left-length}
 
 -- ---- the answers

@@ -1,6 +1,6 @@
 -- One component by itself, over its residuals as a list: what the code of a component must be given, and what it answers and leaves.
 use mathlib.Core.Path.{_≡_}
-use mathlib.Core.Bool.{Bool, true, false, cond}
+use mathlib.Core.Bool.{true, false, cond}
 use mathlib.Core.List.{List, _++_}
 use Prim.Native.Nat.{ℕ, _+_, _*_, _/_, _^_, _≤_}
 use lib.Dec.{ltb}

@@ -40,7 +40,16 @@ pub fn code_component(part: &mut [i16], q: Request, component: Component) -> Qua
         let t = trans(part, l, l);
         return match t {
             TransAnswer::Refused(why) => QuantAnswer::Refused(why, component),
-            TransAnswer::Accepted => quant_nnz(part, l, component, s, q.slice, q.coded, costs, mode),
+            TransAnswer::Accepted => quant_nnz(
+                part,
+                l,
+                component,
+                s,
+                q.slice,
+                q.coded,
+                costs,
+                mode,
+            ),
         };
     }
     QuantAnswer::Coded(Coded { count: 0, price: 0 })

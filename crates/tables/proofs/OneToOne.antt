@@ -5,13 +5,13 @@ use mathlib.Core.Path.{_≡_, refl, sym, ap, subst, _∙_}
 use mathlib.Core.Logic.{⊎-elim}
 use mathlib.Core.Bool.{Bool, true, false, cond}
 use mathlib.Core.List.{List, _++_}
-use Prim.Native.Nat.{ℕ, zero, suc, _+_, _-_, _*_, _/_, _%_, _≤_, _<_, _^_, min}
-use native.Mathlib.Nat.{not-suc-le-zero, mul-add-mod-self-right, mul-add-div-right, mod-eq-of-lt, div-eq-of-lt, mul-le-mul-right, suc-mul, mul-comm, add-zero}
+use Prim.Native.Nat.{ℕ, zero, suc, _+_, _-_, _*_, _/_, _%_, _≤_, _<_, _^_}
+use native.Mathlib.Nat.{not-suc-le-zero, mul-add-mod-self-right, mul-add-div-right, mod-eq-of-lt, div-eq-of-lt, mul-le-mul-right, suc-mul, mul-comm}
 use native.Mathlib.Omega.{arith}
-use lib.Dec.{T, eqb, eqb→eq}
+use lib.Dec.{eqb, eqb→eq}
 use lib.ListN.{length, getD, length-append, List·getD-append}
 use lib.Seq.{getD-append-add}
-use Rattle.integers.specs.Tests.{all, listed}
+use Rattle.integers.specs.Tests.{all}
 use Rattle.integers.proofs.Order.{below-or-not}
 use Rattle.integers.proofs.Tests.{all-at, listed-at, listed-length}
 use Rattle.tables.specs.Scan.{low, high, count, upwards, column, onDiagonal, diagonal, diagonals, scan, scanAt, square}

@@ -5,7 +5,7 @@ use mathlib.Core.Path.{_≡_}
 use mathlib.Core.Bool.{Bool}
 use Prim.Native.Nat.{ℕ, _+_, _-_, _*_, _^_, _<_}
 use lib.Dec.{T}
-use lib.IntN.{ℤ, negℤ}
+use lib.IntN.{negℤ}
 use Rattle.integers.specs.Tests.{all, eqℤ}
 use Rattle.integers.proofs.Tests.{all-at, eqℤ→eq}
 use Rattle.tables.specs.Matrix.{matrix}

@@ -8,7 +8,7 @@ use crate::butterfly::line16;
 use crate::butterfly::line32;
 use crate::butterfly::odd_half;
 ghost use mathlib.Core.Path.{_≡_};
-ghost use Prim.Native.Nat.{ℕ, _+_, _*_, _^_, _<_, _≤_};
+ghost use Prim.Native.Nat.{_+_, _*_, _^_, _<_, _≤_};
 ghost use lib.ListN.{length};
 ghost use Rattle.integers.specs.Sum.{at};
 ghost use Rattle.transform.specs.Lines.{Columns, Placed, Room, Staged, place, stageAt};

@@ -4,7 +4,7 @@ use mathlib.Core.Path.{_≡_, sym, ap, _∙_}
 use mathlib.Core.Logic.{⊎-elim}
 use Prim.Native.Nat.{ℕ, _-_, _*_, _<_}
 use native.Mathlib.Omega.{arith}
-use lib.ListN.{length, getD, set}
+use lib.ListN.{length, set}
 use borrow.Author.Needs.{needs}
 use Rattle.tables.specs.Scan.{scanAt}
 use Rattle.search.proofs.Reading.{Reading, chosen, chosen-zero, chosen-level, begun, reads, read}

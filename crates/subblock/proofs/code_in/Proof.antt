@@ -3,7 +3,7 @@
 -- Assumes nothing.
 use mathlib.Core.Path.{sym, subst, _∙_}
 use mathlib.Core.List.{List}
-use Prim.Native.Nat.{_+_, _-_, _/_}
+use Prim.Native.Nat.{_+_, _/_}
 use borrow.Author.Needs.{needs}
 use lib.IntN.{ℤ}
 use Rattle.subblock.specs.Parts.{AllReady}

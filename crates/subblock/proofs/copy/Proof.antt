@@ -1,11 +1,11 @@
 -- `subblock::copy` meets its contract: entry by entry.
 -- Assumes nothing.
 use mathlib.Core.Path.{_≡_, refl, sym, _∙_}
-use Prim.Native.Nat.{ℕ, _≤_, _<_, _-_}
+use Prim.Native.Nat.{_≤_, _-_}
 use native.Mathlib.Omega.{arith}
 use borrow.Author.Needs.{needs}
 use lib.ListN.{length, length-set, getD}
-use lib.IntN.{ℤ, pos}
+use lib.IntN.{pos}
 use mir.Syntax.{w16}
 use mir.Facts.{toZ-ofZ}
 use Rattle.integers.proofs.Fill.{Filled, filled-more, filled-all}

@@ -1,6 +1,6 @@
 -- `subblock::sub_block_tq` meets its contract: a fault of the first two groups is the call's refusal, and the rest is coded.
 -- Assumes nothing.
-use mathlib.Core.Path.{_≡_, refl, sym, ap, _∙_}
+use mathlib.Core.Path.{sym, ap, _∙_}
 use Rattle.subblock.specs.Tested.{verdictOf}
 use Rattle.subblock.proofs.Passed.{sides}
 use Rattle.subblock.proofs.Finished.{settings-refused, buffer-refused}

@@ -3,7 +3,7 @@
 use mathlib.Core.Path.{ap, _∙_}
 use borrow.Author.Needs.{needs}
 use Rattle.price.specs.declared.Costs.{Costs}
-use Rattle.subblock.specs.Call.{SubBlock, Outcome, calledIn, requested, subBlockAnswer, subBlockBuffer}
+use Rattle.subblock.specs.Call.{SubBlock, calledIn, requested, subBlockAnswer, subBlockBuffer}
 use Rattle.galemosu.specs.Wire.{yes, settingsIn, threeResult, threeWritten}
 use Rattle.galemosu.proofs.wire.sub_block.Statement.{statement}
 use Rattle.galemosu.proofs.wire.sub_block.Tie as tie

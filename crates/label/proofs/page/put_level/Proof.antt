@@ -1,6 +1,6 @@
 -- `label::page::put_level` stays inside its six bytes.
 -- Assumes nothing.
-use Prim.Native.Nat.{_≤_, _<_, _+_, _-_}
+use Prim.Native.Nat.{_≤_, _-_}
 use borrow.Author.Needs.{needs}
 use Rattle.label.proofs.page.put_level.Statement.{statement}
 use Rattle.label.proofs.page.put_level.Tie as tie

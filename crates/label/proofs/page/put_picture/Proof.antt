@@ -1,6 +1,6 @@
 -- `label::page::put_picture` stays inside its line and the picture.
 -- Assumes nothing.
-use Prim.Native.Nat.{_≤_, _<_, _+_, _-_}
+use Prim.Native.Nat.{_≤_, _-_}
 use borrow.Author.Needs.{needs}
 use Rattle.label.proofs.page.put_picture.Statement.{statement}
 use Rattle.label.proofs.page.put_picture.Tie as tie

@@ -1,7 +1,6 @@
 -- `rule::errors::squared` meets its contract: where the two ways meet, one division serves both.
 -- Assumes nothing.
 use mathlib.Core.Logic.{⊎-elim, inl, inr}
-use Prim.Native.Nat.{_-_}
 use native.Mathlib.Omega.{arith}
 use borrow.Author.Needs.{needs}
 use Rattle.rule.proofs.Squaring.{Gap, whole, either, gap-near}

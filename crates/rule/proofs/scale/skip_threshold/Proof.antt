@@ -1,6 +1,5 @@
 -- `rule::scale::skip_threshold` meets its contract.
 -- Assumes nothing.
-use Prim.Native.Nat.{_-_}
 use native.Mathlib.Omega.{arith}
 use borrow.Author.Needs.{needs}
 use Rattle.price.specs.Level.{shiftOf, threshold}

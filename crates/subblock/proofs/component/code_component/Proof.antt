@@ -3,18 +3,14 @@
 -- Assumes nothing.
 use mathlib.Core.Path.{_≡_, refl, sym, ap, _∙_}
 use mathlib.Core.Bool.{true, false}
-use mathlib.Core.List.{List}
 use Prim.Native.Nat.{ℕ}
 use native.Mathlib.Omega.{arith}
 use borrow.Author.Needs.{needs}
-use lib.IntN.{ℤ}
-use Rattle.refusals.specs.Faults.{Verdict, accepted, refused}
-use Rattle.transform.specs.declared.TransAnswer.{TransAnswer}
+use Rattle.refusals.specs.Faults.{accepted}
 use Rattle.transform.specs.Call as trans
-use Rattle.quantise.specs.Block.{Quant}
 use Rattle.quantise.specs.Call.{quantAnswer, quantBuffer}
 use Rattle.subblock.specs.Call.{bit}
-use Rattle.subblock.specs.Parts.{partAnswer, partLeft, quantIn}
+use Rattle.subblock.specs.Parts.{partAnswer, partLeft}
 use Rattle.subblock.proofs.OneComponent.{trans-passes, quant-called}
 use Rattle.subblock.proofs.component.code_component.Statement.{statement}
 use Rattle.subblock.proofs.component.code_component.Tie as tie

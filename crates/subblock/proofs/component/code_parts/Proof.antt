@@ -4,7 +4,6 @@
 use mathlib.Core.Path.{refl, ap, _∙_}
 use native.Mathlib.Omega.{arith}
 use borrow.Author.Needs.{needs}
-use lib.ListN.{length}
 use Rattle.refusals.specs.declared.Component.the-variants.{Y, U, «V»}
 use Rattle.subblock.specs.Parts.{partAnswer}
 use Rattle.subblock.proofs.Turns.{first-is, first-ready, second-is, second-ready, third-is, third-ready, all-left, y-refused, u-refused, v-refused, all-coded}

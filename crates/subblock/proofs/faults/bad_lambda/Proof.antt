@@ -1,8 +1,6 @@
 -- `subblock::faults::bad_lambda` meets its contract: the test is made of a component that is run, and of no other.
 -- Assumes nothing.
 use mathlib.Core.Path.{sym, ap, _∙_}
-use mathlib.Core.Bool.{Bool, _&&_}
-use lib.Dec.{ltb}
 use borrow.Author.Needs.{needs}
 use Rattle.price.specs.declared.Settings.{Settings}
 use Rattle.price.specs.Lambda.{lambdaRefused}

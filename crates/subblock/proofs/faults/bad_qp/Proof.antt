@@ -1,11 +1,9 @@
 -- `subblock::faults::bad_qp` meets its contract: the test is made of a component that is run, and of no other.
 -- Assumes nothing.
 use mathlib.Core.Path.{sym, ap, _∙_}
-use mathlib.Core.Bool.{Bool, _&&_}
 use lib.Dec.{ltb}
 use borrow.Author.Needs.{needs}
 use Rattle.price.specs.declared.Settings.{Settings}
-use Rattle.price.specs.Lambda.{lambdaRefused}
 use Rattle.subblock.specs.Call.{bit}
 use Rattle.subblock.specs.Tested.{setOf}
 use Rattle.subblock.proofs.Asked.{asked, not-asked}

@@ -1,9 +1,8 @@
 -- `subblock::faults::test_settings` meets its contract: each return is the first of the list whose test came out true.
 -- Assumes nothing.
-use mathlib.Core.Path.{_≡_, sym, _∙_}
-use native.Mathlib.Omega.{arith}
+use mathlib.Core.Path.{sym, _∙_}
 use borrow.Author.Needs.{needs}
-use Rattle.refusals.proofs.First.{First, here, later, None, end, but, refused-with-the-first, accepted-without-a-fault}
+use Rattle.refusals.proofs.First.{here, later, end, but, refused-with-the-first, accepted-without-a-fault}
 use Rattle.subblock.specs.Call.{requested, runs, quantOf}
 use Rattle.subblock.specs.Tested.{settingsFaults}
 use Rattle.subblock.proofs.Asked.{side-low, side-high, side-fine}

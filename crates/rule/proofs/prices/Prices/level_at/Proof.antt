@@ -1,6 +1,5 @@
 -- `rule::prices::Prices::level_at` meets its contract.
 -- Assumes nothing.
-use Prim.Native.Nat.{_-_}
 use native.Mathlib.Omega.{arith}
 use native.Mathlib.Nat.{mul-le-mul-right, sub-le}
 use borrow.Author.Needs.{needs}
