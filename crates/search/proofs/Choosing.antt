@@ -18,9 +18,9 @@ use Rattle.rule.specs.declared.prices.Prices.{Prices}
 use Rattle.rule.specs.Prices.{zeroPrice, headPrice, rateBy, ruleBy}
 use Rattle.rule.specs.Offers.{bare, offered}
 use Rattle.rule.proofs.Offering.{same-offer, cost-by}
-use Rattle.search.specs.declared.Ahead.{Ahead}
-use Rattle.search.specs.declared.Choice.{Choice}
-use Rattle.search.specs.declared.Weighed.{Weighed}
+use Rattle.search.specs.declared.place.Ahead.{Ahead}
+use Rattle.search.specs.declared.place.Choice.{Choice}
+use Rattle.search.specs.declared.place.Weighed.{Weighed}
 use Rattle.search.specs.Searching.{ChosenOf, Ready, behindBy, zeroBy, levelBy, WeighedBy, Holds, Held}
 use Rattle.search.proofs.Holding.{As, as-held, as-plus, under-some, some-under, lesser-some, some-lesser, lower}
 

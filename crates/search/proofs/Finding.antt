@@ -18,7 +18,7 @@ use Rattle.rule.specs.declared.scale.Scale.{Scale}
 use Rattle.rule.specs.declared.prices.Prices.{Prices}
 use Rattle.rule.specs.Prices.{ruleBy}
 use Rattle.rule.specs.Places.{keptPlaces, Standing}
-use Rattle.search.specs.declared.Ahead.{Ahead}
+use Rattle.search.specs.declared.place.Ahead.{Ahead}
 use Rattle.search.specs.Searching.{Holds, Known, Findable, FoundOver}
 use Rattle.search.proofs.Reading.{empty-at}
 

@@ -19,7 +19,7 @@ use Rattle.rule.specs.Scale.{Sound}
 use Rattle.rule.specs.Prices.{Modest, zeroPrice, rateBy, ruleBy}
 use Rattle.rule.proofs.Scaling.{magnitude-of-0}
 use Rattle.rule.proofs.Places.{nothing-uncoded}
-use Rattle.search.specs.declared.Ahead.{Ahead}
+use Rattle.search.specs.declared.place.Ahead.{Ahead}
 use Rattle.search.specs.Searching.{passedBy, Holds, Held}
 
 -- ---- the least price x, held as v

@@ -18,8 +18,8 @@ use Rattle.rule.specs.declared.prices.Prices.{Prices}
 use Rattle.rule.specs.Prices.{ruleBy}
 use Rattle.rule.specs.Places.{keptAt, keptPlaces, Scanned}
 use Rattle.rule.proofs.Places.{places-count, place-at}
-use Rattle.search.specs.declared.Ahead.{Ahead}
-use Rattle.search.specs.declared.Weighed.{Weighed}
+use Rattle.search.specs.declared.place.Ahead.{Ahead}
+use Rattle.search.specs.declared.place.Weighed.{Weighed}
 use Rattle.search.specs.Searching.{Passable, passedBy, Ready, WeighedBy, Held, from, Known, Ends, Sought, Decided}
 use Rattle.search.proofs.Holding.{held-small, passed-taken, passed-held, none-held}
 use Rattle.search.proofs.Choosing.{weighed-zero, weighed-level, weighed-on, weighed-held}

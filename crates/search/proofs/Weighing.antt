@@ -14,8 +14,8 @@ use Rattle.rule.specs.declared.prices.Prices.{Prices}
 use Rattle.rule.specs.declared.offers.Offer.{Offer}
 use Rattle.rule.specs.Prices.{Fine}
 use Rattle.rule.specs.Offers.{bare, offered, Offered}
-use Rattle.search.specs.declared.Ahead.{Ahead}
-use Rattle.search.specs.declared.Choice.{Choice}
+use Rattle.search.specs.declared.place.Ahead.{Ahead}
+use Rattle.search.specs.declared.place.Choice.{Choice}
 use Rattle.search.specs.Searching.{ChosenOf, behindBy, zeroBy, levelBy, WeighedBy}
 
 -- ---- the offer is m at most

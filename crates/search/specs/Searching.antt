@@ -16,9 +16,9 @@ use Rattle.rule.specs.Scale.{Sound}
 use Rattle.rule.specs.Prices.{Modest, Fine, ruleBy}
 use Rattle.rule.specs.Offers.{bare, offered}
 use Rattle.rule.specs.Places.{keptAt, keptPlaces, Scanned, Weighable, Standing, Cleared}
-use Rattle.search.specs.declared.Ahead.{Ahead}
-use Rattle.search.specs.declared.Choice.{Choice}
-use Rattle.search.specs.declared.Weighed.{Weighed}
+use Rattle.search.specs.declared.place.Ahead.{Ahead}
+use Rattle.search.specs.declared.place.Choice.{Choice}
+use Rattle.search.specs.declared.place.Weighed.{Weighed}
 
 -- ---- one place
 -- 0 at the price x, or a at the price y where that is strictly less

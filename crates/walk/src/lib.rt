@@ -1,4 +1,5 @@
-// The walk along the scan, and its cut. A place with m = 0 is passed; at another one offer, m or m - 1, is weighed against 0.
+// The walk along the scan, and its cut. A place with m = 0 is passed; at another one offer, m or m - 1, is weighed against 0. The block left
+// and its price are the definition's (specs/Walk.antt of `price`).
 use rule::errors::squared_below;
 use rule::offers::make_offer;
 use rule::prices::Prices;

@@ -1,11 +1,11 @@
--- `search::stop_with` meets its contract: a nonzero level that does not go on is the last one read off.
+-- `search::passes::stop_with` meets its contract: a nonzero level that does not go on is the last one read off.
 -- Assumes nothing.
 use mathlib.Core.Path.{_≡_, refl}
 use Prim.Native.Nat.{ℕ, zero, suc, _+_}
 use borrow.Author.Needs.{needs}
 use Rattle.search.specs.Searching.{stopWith}
-use Rattle.search.proofs.stop_with.Statement.{statement}
-use Rattle.search.proofs.stop_with.Tie as tie
+use Rattle.search.proofs.passes.stop_with.Statement.{statement}
+use Rattle.search.proofs.passes.stop_with.Tie as tie
 
 ended : (a on n stop : ℕ) → (a ≡ 0 → ⊥) → on ≡ 0 → n + 1 ≡ stopWith a on n stop
 ended zero on n stop some e = absurd (some refl)

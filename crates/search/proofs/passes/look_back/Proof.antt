@@ -1,4 +1,4 @@
--- `search::look_back` meets its contract: each turn passes its place or weighs it, and writes what is chosen there.
+-- `search::passes::look_back` meets its contract: each turn passes its place or weighs it, and writes what is chosen there.
 -- Assumes nothing.
 use mathlib.Core.Path.{_≡_, sym, ap, subst, _∙_}
 use Prim.Native.Nat.{ℕ, suc, _*_, _-_, _≤_, _<_}
@@ -10,8 +10,8 @@ use Rattle.rule.specs.Places.{keptAt}
 use Rattle.rule.proofs.Places.{some-kept, product-small}
 use Rattle.search.specs.Searching.{Ready, WeighedBy}
 use Rattle.search.proofs.Looking.{Looking, begun, inside-n, passable, ready, passes, weighs}
-use Rattle.search.proofs.look_back.Statement.{statement}
-use Rattle.search.proofs.look_back.Tie as tie
+use Rattle.search.proofs.passes.look_back.Statement.{statement}
+use Rattle.search.proofs.passes.look_back.Tie as tie
 
 abbrev Inv-loop : tie.InvT-loop
 Inv-loop kept scan side p g end after-zero₀ after-level₀ goes-on₀ t₀ n₀ after-zero after-level goes-on t n =

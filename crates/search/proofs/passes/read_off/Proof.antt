@@ -1,4 +1,4 @@
--- `search::read_off` meets its contract: each turn puts what is chosen at its place, until one is the last.
+-- `search::passes::read_off` meets its contract: each turn puts what is chosen at its place, until one is the last.
 -- Assumes nothing.
 use mathlib.Core.Path.{_≡_, sym, ap, _∙_}
 use mathlib.Core.Logic.{⊎-elim}
@@ -8,8 +8,8 @@ use lib.ListN.{length, set}
 use borrow.Author.Needs.{needs}
 use Rattle.tables.specs.Scan.{scanAt}
 use Rattle.search.proofs.Reading.{Reading, chosen, chosen-zero, chosen-level, begun, reads, read}
-use Rattle.search.proofs.read_off.Statement.{statement}
-use Rattle.search.proofs.read_off.Tie as tie
+use Rattle.search.proofs.passes.read_off.Statement.{statement}
+use Rattle.search.proofs.passes.read_off.Tie as tie
 
 abbrev Inv-loop : tie.InvT-loop
 Inv-loop levels₀ scan side end after-zero after-level goes-on stop₀ prev₀ n₀ levels stop prev n =

@@ -1,4 +1,4 @@
--- `search::last_place` meets its contract: while something is left there is a place for it, and where nothing is left nothing is kept.
+-- `search::passes::last_place` meets its contract: while something is left there is a place for it, and where nothing is left nothing is kept.
 -- Assumes nothing.
 use mathlib.Core.Path.{_≡_, sym, ap, _∙_}
 use mathlib.Core.Logic.{⊎-elim}
@@ -10,8 +10,8 @@ use Rattle.tables.specs.Scan.{scanAt}
 use Rattle.price.proofs.Counting.{ones, one-more, none-more}
 use Rattle.rule.specs.Places.{keptAt, keptFrom}
 use Rattle.rule.proofs.Places.{kept-in-all, kept-next, kept-inside, none-kept}
-use Rattle.search.proofs.last_place.Statement.{statement}
-use Rattle.search.proofs.last_place.Tie as tie
+use Rattle.search.proofs.passes.last_place.Statement.{statement}
+use Rattle.search.proofs.passes.last_place.Tie as tie
 
 abbrev Inv-loop : tie.InvT-loop
 Inv-loop kept scan side count left₀ n₀ left n = (n ≤ side * side) × (left ≡ keptFrom side kept n)
