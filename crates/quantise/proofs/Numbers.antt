@@ -133,8 +133,8 @@ unfolding calledIn quantAnswer quantBuffer
 own = ((refl, refl), (refl, refl), (refl, refl), (refl, refl), (refl, refl), (refl, refl), (refl, refl), (refl, refl), (refl, refl), (refl, refl))
 
 -- the cheapest block of all, beside the walk's of the same call
-abbrev Both : (called : Mode → Quant) → (walked least : Quant → Type 0) → Type 0
-Both called walked least = walked (called Walk) × least (called Least)
+abbrev Both : (Mode → Quant) → (walks finds : Quant → Type 0) → Type 0
+Both of walks finds = walks (of Walk) × finds (of Least)
 
 pub least :
     -- it keeps two levels more than the walk, and is cheaper
