@@ -51,40 +51,8 @@ fn find_in(
     empty
 }
 
-// The rooms are as large as the blocks of a side need: to clear them takes time.
-fn find_small(
-    kept: &[u16],
-    levels: &mut [u16],
-    scan: &[u16],
-    side: usize,
-    p: Prices,
-    g: Scale,
-    d: u64,
-    count: usize,
-) -> u64
-    requires { ⌜ (side ≤ 8) × Findable p g d side (now kept) (now scan) (now levels) count ⌝ }
-    ensures { λ r. ⌜ FoundOver p g d side (now (kept .entry)) (now (levels .exit)) r ⌝ }
-{
-    let n = kept.len();
-    let mut after_zero = [0u16; 64];
-    let mut after_level = [0u16; 64];
-    let mut goes_on = [0u16; 64];
-    find_in(
-        kept,
-        levels,
-        scan,
-        side,
-        p,
-        g,
-        d,
-        count,
-        &mut after_zero[..n],
-        &mut after_level[..n],
-        &mut goes_on[..n],
-    )
-}
-
-fn find_large(
+// Magnitudes are kept by rows, and so are the levels, which are 0 before; `count` are kept, and the block's D is d.
+pub fn find_levels(
     kept: &[u16],
     levels: &mut [u16],
     scan: &[u16],
@@ -114,25 +82,4 @@ fn find_large(
         &mut after_level[..n],
         &mut goes_on[..n],
     )
-}
-
-// Magnitudes are kept by rows, and so are the levels, which are 0 before; `count` are kept, and the block's D is d.
-pub fn find_levels(
-    kept: &[u16],
-    levels: &mut [u16],
-    scan: &[u16],
-    side: usize,
-    p: Prices,
-    g: Scale,
-    d: u64,
-    count: usize,
-) -> u64
-    requires { ⌜ (side ≤ 32) × Findable p g d side (now kept) (now scan) (now levels) count ⌝ }
-    ensures { λ r. ⌜ FoundOver p g d side (now (kept .entry)) (now (levels .exit)) r ⌝ }
-{
-    if side <= 8 {
-        find_small(kept, levels, scan, side, p, g, d, count)
-    } else {
-        find_large(kept, levels, scan, side, p, g, d, count)
-    }
 }

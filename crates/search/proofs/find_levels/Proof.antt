@@ -1,19 +1,19 @@
--- `search::find_small` meets its contract: a block of a side up to 8 fits rooms of 64 places.
+-- `search::find_levels` meets its contract: a block of a side up to 32 fits rooms of 1024 places.
 -- Assumes nothing.
 use mathlib.Core.Path.{_≡_, sym, _∙_}
 use Prim.Native.Nat.{ℕ, _≤_}
 use lib.ListN.{length, take, replicate}
 use borrow.Author.Needs.{needs}
 use Rattle.search.proofs.Finding.{fits, lent}
-use Rattle.search.proofs.find_small.Statement.{statement}
-use Rattle.search.proofs.find_small.Tie as tie
+use Rattle.search.proofs.find_levels.Statement.{statement}
+use Rattle.search.proofs.find_levels.Tie as tie
 
 -- the block fits, and the part of a room that is lent has its length
-room : (s : tie.Start) → length (s .args .kept .now) ≤ 64
-room s = fits 8 (s .args .side) (s .args .kept .now) (s .pre .0) (s .pre .1 .weighable .room)
+room : (s : tie.Start) → length (s .args .kept .now) ≤ 1024
+room s = fits 32 (s .args .side) (s .args .kept .now) (s .pre .0) (s .pre .1 .weighable .room)
 
-part : (s : tie.Start) → length (take {A = ℕ} (length (s .args .kept .now)) (replicate 64 0)) ≡ length (s .args .kept .now)
-part s = lent 8 (s .args .side) (s .args .kept .now) (s .pre .0) (s .pre .1 .weighable .room)
+part : (s : tie.Start) → length (take {A = ℕ} (length (s .args .kept .now)) (replicate 1024 0)) ≡ length (s .args .kept .now)
+part s = lent 32 (s .args .side) (s .args .kept .now) (s .pre .0) (s .pre .1 .weighable .room)
 
 array-borrow-prefix-after-zero : tie.Need-array-borrow-prefix-after-zero
 array-borrow-prefix-after-zero c = room (c .before .before .before .before)
@@ -45,8 +45,8 @@ same-length c = search needs
 returns : tie.Need-returns
 returns c = search needs
 
-pub find-small-spec : {M : Type 1} → statement M
-find-small-spec =
+pub find-levels-spec : {M : Type 1} → statement M
+find-levels-spec =
     tie.close
     (tie.spec
     array-borrow-prefix-after-zero
