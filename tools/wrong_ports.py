@@ -1,12 +1,14 @@
 """wrong_ports.py [--all] [WORDS ..]: which plausible wrong ports the recorded answers catch.
 
-A wrong port is tools/paper.py with one rule changed. Each answers the stored requests of `tq` and `replay`; printed are how many answers it
-gets wrong in each file (counted to 10, with --all to the end) and the request that catches it first. A port that is wrong in the second mode alone is
-asked requests of that mode alone. With WORDS, only ports whose names have one of them. Status 1 if a wrong port is caught by neither file, or if
-the paper itself, or a port that can't differ, gets an answer wrong.
+A wrong port is tools/paper.py with one rule changed. Each answers the stored requests of `tq`; printed are how many
+answers it gets wrong (counted to 10, with --all to the end) of those made by hand and of those drawn by chance, and the
+request that catches it first. A port that is wrong in the second mode alone is asked requests of that mode alone. With
+WORDS, only ports whose names have one of them. Status 1 if a wrong port is caught by neither, or if the paper itself, or
+a port that can't differ, gets an answer wrong.
 """
-import copy, fractions, itertools, math, multiprocessing, os, struct, sys
+import copy, fractions, functools, itertools, math, multiprocessing, os, struct, sys
 from paper import Block, Costs, Malformed, Paper, Refused, U, V, Words, Y
+import vectors
 from vectors import by_hand
 
 HERE = os.path.dirname(os.path.dirname(os.path.abspath(__file__)))
@@ -419,6 +421,8 @@ port("m of 32767 refused", LEVEL=32766)
 port("lambda × (M+1) of 2^41 refused", PRICE=(1 << 41) - 1)
 port("the nearest lambda × (M+1) past 2^41 taken", PRICE=(lambda step, m: step * (m + 1))(*by_hand.nearest_past(1 << 41)))
 port("D of 2^60 refused", DISTORTION=(1 << 60) - 1)
+port("D of 2^60 + 1 taken", DISTORTION=(1 << 60) + 1)
+port("D of 2^60 + 2,553,385 taken", DISTORTION=(1 << 60) + 2553385)
 port("D of 2^60 + 2^26 taken", DISTORTION=(1 << 60) + (1 << 26))
 
 
@@ -701,14 +705,21 @@ equal("lambda × (M+1) of 2^41 + 3 taken", "the nearest product past 2^41 is 2^4
 
 
 # ---- the stored requests, and who gets them wrong
+@functools.cache
 def stored():
-    """For each file, its data as `tq` reads it or its requests, and the recorded answers."""
-    files = {}
-    for name in ("tq/stdin", "tq/stdout", "replay/stdin"):
-        with open(os.path.join(HERE, "crates", name), "rb") as f:
-            files[name] = f.read()
-    replay = Paper().lines(files["replay/stdin"])
-    return files["tq/stdin"], Paper().lines(files["tq/stdout"]), replay[::2], replay[1::2]
+    """Of the requests made by hand, and of those drawn by chance: their part of the file as `tq` reads it, and the
+    recorded answers."""
+    files = []
+    for name in ("stdin", "stdout"):
+        with open(os.path.join(HERE, "crates", "tq", name), "rb") as f:
+            files.append(Paper().lines(f.read()))
+    parts = []
+    for is_chance in (False, True):
+        asked = [(section == vectors.BY_CHANCE) == is_chance for section, _ in vectors.requests()]
+        requests, answers = ([line for line, of_it in zip(lines, asked) if of_it] for lines in files)
+        parts.append((b"\n".join(requests), answers))
+    assert len(files[0]) == len(files[1]) == len(asked), "the stored requests are those of tools/vectors: run tools/record"
+    return parts
 
 
 def wrong_answers(paper, requests, recorded, enough):
@@ -727,14 +738,15 @@ def wrong_answers(paper, requests, recorded, enough):
 
 def tried(job):
     at, enough = job
-    paper, (data, said, requests, recorded) = ([Paper] + PORTS + EQUAL)[at](), stored()
-    return at, wrong_answers(paper, paper.lines(data), said, enough), wrong_answers(paper, requests, recorded, enough)
+    paper = ([Paper] + PORTS + EQUAL)[at]()
+    return at, *[wrong_answers(paper, paper.lines(data), said, enough) for data, said in stored()]
 
 
-def row(paper, tq, replay, enough, sections):
+def row(paper, hand, chance, enough, sections):
     count = lambda wrong: "%d%s" % (wrong, "+" if wrong == enough else "")
-    first = "tq %d, %s" % (tq[1], sections[tq[1] - 1]) if tq[0] else "replay %d" % replay[1] if replay[0] else "-"
-    return "%-66s %5s %6s  %s" % ("the paper itself" if paper is Paper else paper.__name__, count(tq[0]), count(replay[0]), first)
+    first = "by hand %d, %s" % (hand[1], sections[hand[1] - 1]) if hand[0] else "by chance %d" % chance[1] if chance[0] else "-"
+    name = "the paper itself" if paper is Paper else paper.__name__
+    return "%-66s %7s %9s  %s" % (name, count(hand[0]), count(chance[0]), first)
 
 
 def main():
@@ -742,18 +754,19 @@ def main():
     enough = 0 if "--all" in sys.argv else 10
     everyone = [Paper] + PORTS + EQUAL
     asked = [i for i, p in enumerate(everyone) if not words or any(w in p.__name__ for w in words)]
-    sections, bad, caught = [name for name, _ in by_hand.requests()], [], [0, 0, 0]
-    print("%-66s %5s %6s  %s" % ("", "tq", "replay", "first"))
+    sections = [name for name, _ in vectors.requests() if name != vectors.BY_CHANCE]
+    bad, caught = [], [0, 0, 0]
+    print("%-66s %7s %9s  %s" % ("", "by hand", "by chance", "first"))
     with multiprocessing.Pool(2) as pool:
-        for at, tq, replay in pool.imap(tried, [(i, enough) for i in asked]):
+        for at, hand, chance in pool.imap(tried, [(i, enough) for i in asked]):
             paper, wrong = everyone[at], 1 <= at <= len(PORTS)
-            print(row(paper, tq, replay, enough, sections), flush=True)
-            if wrong != (tq[0] + replay[0] > 0):
+            print(row(paper, hand, chance, enough, sections), flush=True)
+            if wrong != (hand[0] + chance[0] > 0):
                 bad.append(paper.__name__)
             if wrong:
-                caught = [n + 1 if c else n for n, c in zip(caught, (tq[0], replay[0], tq[0] + replay[0]))]
+                caught = [n + 1 if c else n for n, c in zip(caught, (hand[0], chance[0], hand[0] + chance[0]))]
     ports = sum(1 <= at <= len(PORTS) for at in asked)
-    print("%d wrong ports: %d caught by tq, %d by replay, %d by one of them" % (ports, *caught))
+    print("%d wrong ports: %d caught by hand, %d by chance, %d by one of them" % (ports, *caught))
     for paper in EQUAL if not words else []:
         print("can't differ: %s: %s" % (paper.__name__, paper.why))
     if bad:

@@ -52,7 +52,7 @@ fn transforms() {
         for (kind, blocks) in kinds {
             let repeat = 400_000 / n + 20;
             let copy = best(&blocks, repeat, |_| {});
-            let rust = best(&blocks, repeat, |b| oracle_release::transform(b, log2_w, log2_h)) - copy;
+            let rust = best(&blocks, repeat, |b| oracle::transform(b, log2_w, log2_h)) - copy;
             let ours = best(&blocks, repeat, |b| galemosu::transform(b, log2_w, log2_h).unwrap()) - copy;
             println!("| {w}×{} | {kind} | {rust:.0} | {ours:.0} | {:.2} |", 1 << log2_h, rust / ours);
         }
@@ -72,7 +72,7 @@ fn quantisers() {
         let copy = best(&blocks, repeat, |_| {});
         let rust = best(&blocks, repeat, |b| {
             let (qp, lambda) = (settings.qp as u8, settings.lambda);
-            std::hint::black_box(oracle_release::quant(qp, lambda, true, true, b, log2, log2, 0, &flat));
+            std::hint::black_box(oracle::quant(qp, lambda, true, true, b, log2, log2, 0, &flat));
         }) - copy;
         let mine = best(&blocks, repeat, |b| {
             std::hint::black_box(ours(b));

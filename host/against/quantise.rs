@@ -1,6 +1,7 @@
-//! The quantiser against the Rust and against document 01: count and levels of an accepted block must be those of both, the price the
-//! document's, the surplus untouched; a refused block must be left as it was. Where the Rust's 32-bit rate overflows it has no answer,
-//! and the document is alone.
+//! The quantiser against the Rust and against document 01: count and levels of an accepted block must be those of both,
+//! the price the document's and the best cost that the Rust's walk has found (0 where it has not walked), the surplus
+//! untouched; a refused block must be left as it was. Where the Rust's 32-bit rate overflows it has no answer, and the
+//! document is alone.
 
 use crate::blocks::Random;
 use crate::calls::{self, Quantise, COMPONENTS};
@@ -52,9 +53,9 @@ fn accepted(tally: &mut Tally, call: &Quantise, coded: Coded, ours: &[i16]) -> b
     tally.kind("pairs of flags", 2 * call.intra_slice as usize + call.intra_coded as usize);
     tally.kind("of skipped, emptied and coded", if block.skipped() { 0 } else { 1 + (count != 0) as usize });
     let same_as_theirs = match theirs(call) {
-        Some((n, block)) => {
+        Some((n, price, block)) => {
             tally.both += 1;
-            n == count && block == levels
+            n == count && price == coded.price as i64 && block == levels
         }
         None => {
             tally.beyond += 1;
@@ -68,14 +69,15 @@ fn accepted(tally: &mut Tally, call: &Quantise, coded: Coded, ours: &[i16]) -> b
         && *surplus == call.buffer[call.needs()..]
 }
 
-/// What the Rust answers and leaves, if it does not panic.
-fn theirs(call: &Quantise) -> Option<(usize, Vec<i16>)> {
+/// The Rust's count and best cost, and what it leaves, if it does not panic.
+fn theirs(call: &Quantise) -> Option<(usize, i64, Vec<i16>)> {
     let mut block = call.buffer[..call.needs()].to_vec();
     let (side, component, costs) = (call.log2_side, call.component as usize, costs_of_the_rust(&call.costs));
     let (qp, lambda) = (call.settings.qp as u8, call.settings.lambda);
     catch_unwind(move || {
-        let count = oracle_checked::quant(qp, lambda, call.intra_coded, call.intra_slice, &mut block, side, side, component, &costs);
-        (count as usize, block)
+        let (coded, slice) = (call.intra_coded, call.intra_slice);
+        let count = oracle::quant(qp, lambda, coded, slice, &mut block, side, side, component, &costs);
+        (count as usize, oracle::price_probe(), block)
     })
     .ok()
 }

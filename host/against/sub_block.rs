@@ -84,7 +84,7 @@ fn theirs(call: &SubBlock) -> Option<([u16; 3], [Vec<i16>; 3])> {
     let (qps, lambdas) = (call.settings.map(|s| s.qp as u8), call.settings.map(|s| s.lambda));
     catch_unwind(move || {
         let (coded, slice) = (call.intra_coded, call.intra_slice);
-        let counts = oracle_checked::sub_block(&mut y, &mut u, &mut v, side, side, qps, lambdas, coded, slice, call.run as u8, &costs);
+        let counts = oracle::sub_block(&mut y, &mut u, &mut v, side, side, qps, lambdas, coded, slice, call.run as u8, &costs);
         (counts, [y, u, v])
     })
     .ok()

@@ -1,4 +1,4 @@
-"""The requests of crates/replay/stdin: every shape, QP, component and flag, with blocks and tables of many kinds, drawn from fixed seeds;
+"""Requests drawn from fixed seeds: every shape, QP, component and flag, with blocks and tables of many kinds;
 those of the second mode come last. Most are small; of side 32 there are a few dozen. About one in seven is refused."""
 import math
 from vectors.lines import BELOW_HALF, least, quantise, subblock, transform

@@ -1,5 +1,6 @@
-"""The requests of crates/tq/stdin: document 01's numbers, every limit with its neighbour, every kind of malformed line. A section is a function
-that gives lines; SECTIONS is their order. The file has nothing but requests, so that what a line is for stands here."""
+"""Requests made by hand: document 01's numbers, every limit with its neighbour, every kind of malformed line. A section
+is a function that gives lines; SECTIONS is their order. The recorded file has nothing but requests, so that what a line
+is for stands here."""
 import math
 from vectors.lines import BELOW_HALF, FLAT, USUAL, bits, costs, least, put, quantise, subblock, transform
 
@@ -45,8 +46,8 @@ STATED = [
 
 
 def run_only():
-    """Numbers that the paper asks to be run. QP 5 puts 9 a hair above half a step: lambda 0 keeps it, lambda 1 drops it. The f64 before the
-    largest below 1/2 is still lambda 0."""
+    """Numbers that the paper asks to be run. Whether lambda is 0 or 1 shows in the price. The f64 before the largest below
+    1/2 is still lambda 0."""
     for x in (0.0, math.nextafter(BELOW_HALF, 0), BELOW_HALF, 0.5 / 32768, 1 / 32768):
         yield quantise([18, 9, 0, 0], qp=5, d=x)
     for r in (1023, 1024, -1023, -1024):
@@ -212,7 +213,8 @@ def widest_prices():
 
 
 def distortions():
-    """D at 2^60 exactly, and past it by one coefficient of 1; also where every place adds to it."""
+    """D at 2^60 exactly, and past it by one coefficient of 1; also where every place adds to it; past it by 2,553,385;
+    and, by coefficients that are worked out for it, at 2^60 and past it by 1."""
     yield quantise([16384] * 64 + [1] + [0] * 959, 5, d=0.0, component=1)
     yield quantise([0] * 959 + [1] + [-16384] * 64, 5, d=0.0, component=2)
     yield quantise([4096] * 1024, 5, d=0.0)
@@ -221,6 +223,10 @@ def distortions():
     yield quantise([16384] * 255 + [16385], 4, d=0.0)
     yield quantise([16384] * 255 + [-16383], 4, d=0.0)
     yield quantise([32767] * 64, 3, d=0.0)
+    yield quantise([8692] * 226 + [10268] + [0] * 797, 5, qp=63, d=0.0, costs=[0] * 28)
+    for ones, twos, threes in ((4, 131, 1), (7, 128, 2)):
+        block = [7077] * 343 + [1067] + [1] * ones + [2] * twos + [3] * threes
+        yield quantise(block + [0] * (1024 - len(block)), 5, qp=63, d=0.0)
 
 
 # ---- the order of the refusals
@@ -732,9 +738,9 @@ def malformed_in_the_second_mode():
     yield from LEAST.values()
 
 
-def end_of_file():
-    """The last line; the file has no newline behind it."""
-    yield quantise([200, 100, 60, 33, -32768], component=1, costs=MIXED)
+def last():
+    """The file's last line, which has no newline behind it."""
+    return quantise([200, 100, 60, 33, -32768], component=1, costs=MIXED)
 
 
 SECTIONS = [
@@ -742,7 +748,7 @@ SECTIONS = [
     order_of_the_transform, order_of_three_components, late_refusals_of_three_components, masks, nothing_run, flags, thresholds, contexts, scans, ties,
     cuts, lowered, negative_errors, wide_rates, spaces, verbs, numbers_in_every_field, lambdas_in_hex, missing_and_more, most_samples, long_lines,
     refusals_of_the_second_mode, what_runs_in_the_second_mode, the_walks_choices_in_the_second_mode, where_the_walk_is_dearer, ties_of_the_second_mode,
-    levels_at_equal_price, close_prices, malformed_in_the_second_mode, end_of_file,
+    levels_at_equal_price, close_prices, malformed_in_the_second_mode,
 ]
 
 
