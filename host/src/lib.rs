@@ -1,7 +1,12 @@
 //! The proved transform and quantiser of an EVC recorder, for a Rust host.
 //!
-//! Every call comes back, for all settings, lengths and samples. A refused call gives one of nine refusals in a fixed order and
-//! leaves the lent block as it was; `docs/PROMISES.md` says what is proved.
+//! Every call comes back, for all settings, lengths and samples. A refused call gives one of nine refusals in a fixed
+//! order and leaves the lent block as it was; `docs/PROMISES.md` says what is proved.
+
+/// The example of README.md, compiled and run.
+#[cfg(doctest)]
+#[doc = include_str!("../../README.md")]
+struct Readme;
 
 /// The nine refusals, with the numbers that the calls answer.
 #[derive(Clone, Copy, Debug, PartialEq, Eq)]
@@ -57,8 +62,9 @@ pub struct Settings {
     pub lambda: f64,
 }
 
-/// The cost tables: pair k of a table stands at 2k and 2k+1. The run and level pairs are rows 0 to 3 of the source's, the cbf pairs
-/// those of all, luma, cb and cr. A signed entry of the source, `as u64`, keeps its meaning: a negative one is refused with `Cost`.
+/// The cost tables: pair k of a table stands at 2k and 2k+1. The run and level pairs are rows 0 to 3 of the source's, the
+/// cbf pairs those of all, luma, cb and cr. A signed entry of the source, `as u64`, keeps its meaning: a negative one is
+/// refused with `Cost`.
 #[derive(Clone, Copy, Debug, PartialEq, Eq)]
 #[repr(C)]
 pub struct Costs {
@@ -84,18 +90,57 @@ pub struct Coded {
 }
 
 type Quantise = unsafe extern "C" fn(*mut i16, usize, usize, u32, f64, u32, u32, *const u64, *mut u64) -> u32;
-type SubBlock = unsafe extern "C" fn(*mut i16, usize, usize, *const u32, *const f64, u32, u32, u32, *const u64, *mut u64) -> u32;
+type SubBlock = unsafe extern "C" fn(
+    *mut i16,
+    usize,
+    usize,
+    *const u32,
+    *const f64,
+    u32,
+    u32,
+    u32,
+    *const u64,
+    *mut u64,
+) -> u32;
 
-extern "C" {
-    fn galemosu_transform(block: *mut i16, len: usize, log2_w: usize, log2_h: usize) -> u32;
-    fn galemosu_quantise_y(block: *mut i16, len: usize, log2_side: usize, qp: u32, lambda: f64, intra_slice: u32, intra_coded: u32, costs: *const u64, answer: *mut u64) -> u32;
-    fn galemosu_quantise_u(block: *mut i16, len: usize, log2_side: usize, qp: u32, lambda: f64, intra_slice: u32, intra_coded: u32, costs: *const u64, answer: *mut u64) -> u32;
-    fn galemosu_quantise_v(block: *mut i16, len: usize, log2_side: usize, qp: u32, lambda: f64, intra_slice: u32, intra_coded: u32, costs: *const u64, answer: *mut u64) -> u32;
-    fn galemosu_quantise_least_y(block: *mut i16, len: usize, log2_side: usize, qp: u32, lambda: f64, intra_slice: u32, intra_coded: u32, costs: *const u64, answer: *mut u64) -> u32;
-    fn galemosu_quantise_least_u(block: *mut i16, len: usize, log2_side: usize, qp: u32, lambda: f64, intra_slice: u32, intra_coded: u32, costs: *const u64, answer: *mut u64) -> u32;
-    fn galemosu_quantise_least_v(block: *mut i16, len: usize, log2_side: usize, qp: u32, lambda: f64, intra_slice: u32, intra_coded: u32, costs: *const u64, answer: *mut u64) -> u32;
-    fn galemosu_sub_block(buffer: *mut i16, len: usize, log2_luma: usize, qp: *const u32, lambda: *const f64, run: u32, intra_slice: u32, intra_coded: u32, costs: *const u64, answer: *mut u64) -> u32;
-    fn galemosu_sub_block_least(buffer: *mut i16, len: usize, log2_luma: usize, qp: *const u32, lambda: *const f64, run: u32, intra_slice: u32, intra_coded: u32, costs: *const u64, answer: *mut u64) -> u32;
+/// The calls of `include/galemosu.h`, with a slice as a pointer and a length.
+macro_rules! calls {
+    (quantise: $($quantise:ident)*; sub_block: $($sub_block:ident)*) => {
+        extern "C" {
+            fn galemosu_transform(block: *mut i16, len: usize, log2_w: usize, log2_h: usize) -> u32;
+            $(fn $quantise(
+                block: *mut i16,
+                len: usize,
+                log2_side: usize,
+                qp: u32,
+                lambda: f64,
+                intra_slice: u32,
+                intra_coded: u32,
+                costs: *const u64,
+                answer: *mut u64,
+            ) -> u32;)*
+            $(fn $sub_block(
+                buffer: *mut i16,
+                len: usize,
+                log2_luma: usize,
+                qp: *const u32,
+                lambda: *const f64,
+                run: u32,
+                intra_slice: u32,
+                intra_coded: u32,
+                costs: *const u64,
+                answer: *mut u64,
+            ) -> u32;)*
+        }
+    };
+}
+
+calls! {
+    quantise:
+        galemosu_quantise_y galemosu_quantise_u galemosu_quantise_v
+        galemosu_quantise_least_y galemosu_quantise_least_u galemosu_quantise_least_v;
+    sub_block:
+        galemosu_sub_block galemosu_sub_block_least
 }
 
 /// A refused call's answer: the result's number and the component that stands first in what was written.
