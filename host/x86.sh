@@ -1,5 +1,6 @@
-# x86.sh: sourced, at the repository's root, by what builds for x86-64 and runs it on whatever processor this is: with the kit's clang, lld
-# and C library, and on another processor with the kit's qemu. Its log is $out/log; $out is the caller's folder.
+# x86.sh: sourced, at the repository's root, by what builds for x86-64 and runs it on whatever processor this is: with
+# the kit's clang, lld and C library, and on another processor with the kit's qemu. Its log is $out/log; $out is the
+# caller's folder.
 machine=$(uname -m)
 triple=x86_64-unknown-linux-gnu
 kit=${RATTLE_HOME:-$(dirname "$(dirname "$(readlink -f "$(command -v rt)")")")}
@@ -42,8 +43,9 @@ x86_link() {
     program=$1
     shift
     "$tools/ld.lld" -pie --dynamic-linker /lib64/ld-linux-x86-64.so.2 -o "$program" \
-        "$c_library/Scrt1.o" "$c_library/crti.o" "$c_library/crtbeginS.o" "$@" "$c_library/libc.so.6" "$c_library/libc_nonshared.a" \
-        "$c_library/libgcc.a" "$c_library/crtendS.o" "$c_library/crtn.o" 2>"$out/log" || say
+        "$c_library/Scrt1.o" "$c_library/crti.o" "$c_library/crtbeginS.o" "$@" \
+        "$c_library/libc.so.6" "$c_library/libc_nonshared.a" "$c_library/libgcc.a" \
+        "$c_library/crtendS.o" "$c_library/crtn.o" 2>"$out/log" || say
 }
 
 # x86_runner FILE: a script that runs a program for x86-64, under emulation where this is another processor
@@ -51,7 +53,8 @@ x86_runner() {
     if [ "$machine" = x86_64 ]; then
         printf '#!/bin/sh\nexec "$@"\n' >"$1"
     else
-        printf '#!/bin/sh\nexec "%s" "%s" --library-path "%s" "$@"\n' "$qemu" "$c_library/ld-linux-x86-64.so.2" "$c_library" >"$1"
+        printf '#!/bin/sh\nexec "%s" "%s" --library-path "%s" "$@"\n' \
+            "$qemu" "$c_library/ld-linux-x86-64.so.2" "$c_library" >"$1"
     fi
     chmod +x "$1"
 }

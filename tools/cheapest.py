@@ -1,12 +1,16 @@
-"""cheapest.py: the cheapest block of the second mode, found in two other ways than tools/paper.py's search, and the three held against each other.
+"""cheapest.py: the cheapest block of the second mode, found in two other ways than tools/paper.py's search, and the
+three held against each other.
 
     Listed      all blocks of allowed magnitudes in dictionary order, and the first of least price
-    Forwards    from the first place on, after a 0 and after a nonzero level, the cheapest front of a block, kept with all its levels
+    Forwards    from the first place on, after a 0 and after a nonzero level, the cheapest front of a block, kept with
+                all its levels
 
-What levels cost is paper.py's (Block). The first way is the definition's own words, and takes a block of few nonzero m; the second takes any. Of two
-fronts that leave the same to come, the cheaper one serves every block at least as well, and at equal price the first in dictionary order does.
+What levels cost is paper.py's (Block). The first way is the definition's own words, and takes a block of few nonzero m;
+the second takes any. Of two fronts that leave the same to come, the cheaper one serves every block at least as well,
+and at equal price the first in dictionary order does.
 
-Run alone it compares them on 2×2 blocks over a grid and on some of side 4 and 8; status 1 if two differ, or if no tie of some kind has come.
+Run alone it compares them on 2×2 blocks over a grid and on some of side 4 and 8; status 1 if two differ, or if no tie
+of some kind has come.
 """
 import collections, itertools, math, sys
 from paper import Block, Costs, Paper
@@ -36,7 +40,8 @@ class Listed(Paper):
 class Forwards(Paper):
     def cheapest(self, block):
         of = block.lambda_
-        # (price, levels) is compared by price, then in dictionary order; a finished block has no zeros behind its last level
+        # (price, levels) is compared by price, then in dictionary order; a finished block has no zeros behind its last
+        # level
         finished = [(block.empty_price(), ())]
         fronts = {1: (of * block.cbf[1], ())}
         for p, m in enumerate(block.rounded):
@@ -86,8 +91,8 @@ def cost_tables(r):
 
 
 def small_blocks(r):
-    """The inputs of 2×2 blocks over a grid of half and whole steps of 16 and what lies between them, of such at equal price with the empty block,
-    and of 4×4 and 8×8 with a few coefficients."""
+    """The inputs of 2×2 blocks over a grid of half and whole steps of 16 and what lies between them, of such at equal
+    price with the empty block, and of 4×4 and 8×8 with a few coefficients."""
     for turn, entries in enumerate(cost_tables(r)):
         for d in (0.0, 1 / 1024, 1 / 256):
             for values in itertools.product((0, 8, -12, 16, 24, -40), repeat=4):
@@ -103,15 +108,19 @@ def small_blocks(r):
         for _ in range(r.between(1, 6)):
             block[r.below(len(block))] = r.of((1, -1)) * r.of((4, 6, 8, 8, 12, 16, 20, r.between(1, 40)))
         entries = r.of(list(cost_tables(r)))
-        yield block, log2, turn % 3, 4 + 6 * r.below(2), r.of((0.0, 1 / 1024, 1 / 256, 1 / 64)), turn % 2 == 0, turn % 4 < 2, Costs(entries)
+        yield block, log2, turn % 3, 4 + 6 * r.below(2), r.of(
+            (0.0, 1 / 1024, 1 / 256, 1 / 64)), turn % 2 == 0, turn % 4 < 2, Costs(entries)
 
 
 def evened(inputs):
-    """The same block with the cbf pair moved so that the empty block and the cheapest other one cost the same, if that can be."""
+    """The same block with the cbf pair moved so that the empty block and the cheapest other one cost the same, if that
+    can be."""
     block, table = Block(Paper(), *inputs), Costs(list(inputs[7].entries))
     if block.skipped or block.lambda_ == 0:
         return None
-    coded = min(block.price(levels) for levels in map(list, itertools.product(*map(block.paper.in_order, block.rounded))) if any(levels))
+    coded = min(block.price(levels) for levels in map(list,
+                                                      itertools.product(*map(block.paper.in_order, block.rounded)))
+                if any(levels))
     dearer, rest = divmod(coded - block.empty_price(), block.lambda_)
     pair = 20 + 2 * block.paper.cbf_row(block.component, inputs[6])
     table.entries[pair + (dearer < 0)] += abs(dearer)

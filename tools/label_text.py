@@ -1,4 +1,5 @@
-"""label_text.py < crates/label/stdin > crates/label/stdout: what the program `label` must write, worked out by tools/paper.py.
+"""label_text.py < crates/label/stdin > crates/label/stdout: what the program `label` must write, worked out by
+tools/paper.py.
 
 The program's own answer is no part of it.
 """
@@ -28,13 +29,15 @@ def fate(m, level):
 
 
 def tally(counts):
-    return "kept %d, lowered %d, dropped %d, other %d" % tuple(counts[k] for k in ("kept", "lowered", "dropped", "other"))
+    return "kept %d, lowered %d, dropped %d, other %d" % tuple(
+        counts[k] for k in ("kept", "lowered", "dropped", "other"))
 
 
 def main():
     paper = Paper()
     rows = sys.stdin.read().split("\n")[:2 * SIDE]
-    print("A label's digit. In a block # is %d, + is %d, . is %d; its levels stand beside it, by rows." % tuple(RESIDUALS.values()))
+    print("A label's digit. In a block # is %d, + is %d, . is %d; its levels stand beside it, by rows." % tuple(
+        RESIDUALS.values()))
     print("A level has its rounded magnitude; v: one less; x: dropped.")
     whole = {}
     for at in range(4):

@@ -1,9 +1,11 @@
-"""Document 01, document 02's second mode (its ticket 9) and the line protocol in Python's whole numbers, sentence by sentence. It shares nothing
-with the crates, and stands in for nothing of theirs: recorded answers and the label's expected text are held against it.
+"""Document 01, document 02's second mode (its ticket 9) and the line protocol in Python's whole numbers, sentence by
+sentence. It shares nothing with the crates, and stands in for nothing of theirs: recorded answers and the label's
+expected text are held against it.
 
     python3 tools/paper.py < requests     an answer line for each request line
 
-Each rule of the paper is a method of its own, so that a wrong port is a class that changes one of them (tools/wrong_ports.py).
+Each rule of the paper is a method of its own, so that a wrong port is a class that changes one of them
+(tools/wrong_ports.py).
 """
 import functools, math, operator, re, struct, sys
 
@@ -132,7 +134,8 @@ class Block:
         end = nonzero[-1] + 1
         befores = [self.paper.start()] + levels
         places = sum(self.cost(p, levels[p], befores[p]) for p in range(end))
-        flags = self.paper.coded_flag(self.cbf) + (len(nonzero) - 1) * self.paper.more_flag(self.last) + self.paper.last_flag(self.last)
+        flags = self.paper.coded_flag(self.cbf) + (len(nonzero) - 1) * self.paper.more_flag(
+            self.last) + self.paper.last_flag(self.last)
         return places + self.uncoded[end] + self.lambda_ * flags
 
 
@@ -140,11 +143,13 @@ class Paper:
     Words = Words
     # what refusals 1, 2, 3, 4, 6, 7, 8 and 9 still let pass
     LEAST_SIDE, LEAST_LUMA, MOST_SIDE = 1, 2, 5
-    QP, LAMBDA, COST, RESIDUAL, COEFFICIENT, LEVEL, PRICE, DISTORTION = 63, 8192, 1048576, 1023, 32767, 32767, 1 << 41, 1 << 60
+    QP, LAMBDA, COST = 63, 8192, 1048576
+    RESIDUAL, COEFFICIENT, LEVEL, PRICE, DISTORTION = 1023, 32767, 32767, 1 << 41, 1 << 60
 
     # ---- transform
     # column 0 of T_32; every entry of every matrix follows from it
-    COLUMN = [64, 90, 90, 90, 89, 88, 87, 85, 84, 82, 80, 78, 75, 73, 70, 67, 64, 61, 57, 54, 50, 47, 43, 39, 35, 30, 26, 22, 18, 13, 9, 4]
+    COLUMN = [64, 90, 90, 90, 89, 88, 87, 85, 84, 82, 80, 78, 75, 73, 70, 67, 64, 61, 57, 54, 50, 47, 43, 39, 35, 30,
+              26, 22, 18, 13, 9, 4]
 
     def entry(self, k, n):
         if k == 0:
@@ -293,8 +298,9 @@ class Paper:
     def count(self, block, levels):
         return sum(a != 0 for a in levels)
 
-    # ---- quantiser: the cheapest block of all, in the second mode. A rate depends on the level before it only by whether that is 0, so
-    # what may follow a place is known by two numbers: the least price of it after a 0 and after a 1, which stands for every nonzero level.
+    # ---- quantiser: the cheapest block of all, in the second mode. A rate depends on the level before it only by
+    # whether that is 0, so what may follow a place is known by two numbers: the least price of it after a 0 and after a
+    # 1, which stands for every nonzero level.
     def in_order(self, m):
         """The magnitudes allowed, as the dictionary has them."""
         return sorted(set(self.allowed(m)))
@@ -312,7 +318,8 @@ class Paper:
         return self.going_on(block, ahead) < self.ending(block, p)
 
     def least_with(self, block, p, a, before, ahead):
-        """The least price of the magnitude a at place p and of what follows; with a 0, a nonzero level is still to come."""
+        """The least price of the magnitude a at place p and of what follows; with a 0, a nonzero level is still to
+        come."""
         behind = min(self.ending(block, p), self.going_on(block, ahead)) if a else ahead[0]
         return block.cost(p, a, before) + behind
 
@@ -321,7 +328,8 @@ class Paper:
         return math.inf, math.inf
 
     def ahead(self, block):
-        """From each place on, after a 0 and after a 1: the least price of what has a nonzero level still to come. From behind forwards."""
+        """From each place on, after a 0 and after a 1: the least price of what has a nonzero level still to come. From
+        behind forwards."""
         found = [self.behind_the_last()]
         for p, m in reversed(list(enumerate(block.rounded))):
             least = lambda before: min(self.least_with(block, p, a, before, found[-1]) for a in self.in_order(m))
@@ -337,7 +345,8 @@ class Paper:
         levels, before, ahead = [], self.start(), self.ahead(block)
         goes_on = self.is_coded(block, ahead[0])
         for p, m in enumerate(block.rounded):
-            a = min(self.in_order(m), key=lambda a: self.least_with(block, p, a, before, ahead[p + 1])) if goes_on else 0
+            a = min(self.in_order(m), key=lambda a: self.least_with(
+                block, p, a, before, ahead[p + 1])) if goes_on else 0
             goes_on = goes_on and (a == 0 or self.goes_on(block, p, ahead[p + 1]))
             levels.append(a)
             before = min(a, 1)
@@ -422,7 +431,8 @@ class Paper:
     def quantise(self, buffer, log2, component, qp, d, intra_slice, intra_coded, costs, least=False):
         """Count, price and buffer; least: in the second mode."""
         n = self.places(log2, log2)
-        block = functools.cache(lambda: Block(self, buffer[:n], log2, component, qp, d, intra_slice, intra_coded, costs))
+        block = functools.cache(lambda: Block(self, buffer[:n], log2, component, qp, d, intra_slice, intra_coded,
+                                              costs))
         self.first_fault([
             (1, 0, lambda: self.side_fault(log2, self.LEAST_SIDE)),
             (2, component, lambda: self.qp_fault(qp)),
@@ -459,20 +469,23 @@ class Paper:
 
         @functools.cache
         def block(k):
-            return Block(self, self.coefficients(held(k), side(k), side(k)), side(k), k, qp[k], d[k], intra_slice, intra_coded, costs)
+            return Block(self, self.coefficients(held(k), side(k), side(k)), side(k), k, qp[k], d[k], intra_slice,
+                         intra_coded, costs)
 
         run_ones = [k for k in (Y, U, V) if self.runs(run, k)]
         tests = [(1, 0, lambda: self.side_fault(luma, self.LEAST_LUMA))]
         tests += [(2, k, lambda k=k: self.qp_fault(qp[k])) for k in self.settings_read(run)]
         tests += [(3, k, lambda k=k: self.lambda_fault(d[k])) for k in self.settings_read(run)]
         tests += [(4, 0, lambda: self.cost_fault(costs, run)), (5, 0, lambda: len(buffer) < self.needed(luma, run))]
-        tests += [(6, k, lambda k=k: self.residual_fault(self.sampled(buffer, at[k][1])[at[k][0]:])) for k in self.samples_read(run)]
+        tests += [(6, k, lambda k=k: self.residual_fault(self.sampled(buffer, at[k][1])[at[k][0]:]))
+                  for k in self.samples_read(run)]
         for k in run_ones:
             tests += self.late_tests(k, lambda k=k: block(k))
         self.first_fault(tests)
         answers, after = [], list(buffer)
         for k in (Y, U, V):
-            count, price, after[slice(*at[k])] = self.finished(block(k), least) if k in run_ones else self.not_run(held(k))
+            count, price, after[slice(*at[k])] = self.finished(block(k), least) if k in run_ones else self.not_run(
+                held(k))
             answers.append((count, price))
         return answers, after
 
@@ -507,13 +520,15 @@ class Paper:
         if verb in self.QUANTISE:
             component, log2, qp, d = words.component(), words.log2(), words.u32(), words.f64()
             slice_, coded, costs = words.flag(), words.flag(), words.costs()
-            count, price, after = self.quantise(words.samples(), log2, component, qp, d, slice_, coded, costs, self.QUANTISE[verb])
+            count, price, after = self.quantise(words.samples(), log2, component, qp, d, slice_, coded, costs,
+                                                self.QUANTISE[verb])
             return b"accepted %d %d :" % (count, price), after
         if verb in self.SUBBLOCK:
             log2, run = words.log2(), words.u32()
             qp, d = zip(*[(words.u32(), words.f64()) for k in (Y, U, V)])
             slice_, coded, costs = words.flag(), words.flag(), words.costs()
-            answers, after = self.sub_block(words.samples(), log2, run, qp, d, slice_, coded, costs, self.SUBBLOCK[verb])
+            answers, after = self.sub_block(words.samples(), log2, run, qp, d, slice_, coded, costs,
+                                            self.SUBBLOCK[verb])
             return b"accepted %s :" % b" ".join(b"%d %d" % a for a in answers), after
         raise Malformed
 

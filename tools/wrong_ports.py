@@ -3,8 +3,8 @@
 A wrong port is tools/paper.py with one rule changed. Each answers the stored requests of `tq`; printed are how many
 answers it gets wrong (counted to 10, with --all to the end) of those made by hand and of those drawn by chance, and the
 request that catches it first. A port that is wrong in the second mode alone is asked requests of that mode alone. With
-WORDS, only ports whose names have one of them. Status 1 if a wrong port is caught by neither, or if the paper itself, or
-a port that can't differ, gets an answer wrong.
+WORDS, only ports whose names have one of them. Status 1 if a wrong port is caught by neither, or if the paper itself,
+or a port that can't differ, gets an answer wrong.
 """
 import copy, fractions, functools, itertools, math, multiprocessing, os, struct, sys
 from paper import Block, Costs, Malformed, Paper, Refused, U, V, Words, Y
@@ -95,14 +95,19 @@ port("fraction of a negative error dropped toward zero", error=lambda s, x, e: s
 port("error rounded to nearest", error=lambda s, x, e: (x * e + (1 << 19)) >> 20)
 port("lambda without the half", lambda_of=lambda s, d: math.floor(d * 32768.0))
 port("lambda rounded to even", lambda_of=lambda s, d: round(d * 32768.0))
-port("lambda's sum not rounded", lambda_of=lambda s, d: math.floor(fractions.Fraction(d) * 32768 + fractions.Fraction(1, 2)))
-port("lambda by way of an f32", lambda_of=lambda s, d: math.floor(struct.unpack("f", struct.pack("f", d * 32768.0 + 0.5))[0]))
+port("lambda's sum not rounded", lambda_of=lambda s, d: math.floor(
+    fractions.Fraction(d) * 32768 + fractions.Fraction(1, 2)))
+port("lambda by way of an f32", lambda_of=lambda s, d: math.floor(
+    struct.unpack("f", struct.pack("f", d * 32768.0 + 0.5))[0]))
 port("lambda at most 2^28 - 1", lambda_of=lambda s, d: min(Paper.lambda_of(s, d), 2 ** 28 - 1))
-port("a NaN lambda taken as 0", lambda_fault=lambda s, d: d < 0 or d > 8192, lambda_of=lambda s, d: 0 if d != d else Paper.lambda_of(s, d))
-port("a lambda below 0 taken as 0", lambda_fault=lambda s, d: not d <= 8192, lambda_of=lambda s, d: Paper.lambda_of(s, max(d, 0.0)))
+port("a NaN lambda taken as 0", lambda_fault=lambda s, d: d < 0 or d > 8192,
+     lambda_of=lambda s, d: 0 if d != d else Paper.lambda_of(s, d))
+port("a lambda below 0 taken as 0", lambda_fault=lambda s, d: not d <= 8192,
+     lambda_of=lambda s, d: Paper.lambda_of(s, max(d, 0.0)))
 port("a denormal below 0 taken as 0", lambda_fault=lambda s, d: not -1e-300 <= d <= 8192)
 port("-0.0 refused", lambda_fault=lambda s, d: not 0 <= d <= 8192 or math.copysign(1, d) < 0)
-port("a lambda above 8192 taken as 8192", lambda_fault=lambda s, d: not 0 <= d, lambda_of=lambda s, d: Paper.lambda_of(s, min(d, 8192.0)))
+port("a lambda above 8192 taken as 8192", lambda_fault=lambda s, d: not 0 <= d,
+     lambda_of=lambda s, d: Paper.lambda_of(s, min(d, 8192.0)))
 
 # ---- skip
 port("skip tested with m", is_skipped=lambda s, block, i, c: not any(block.rounded))
@@ -111,10 +116,14 @@ port("intra slice taken from intra-coded", is_skipped=lambda s, block, i, c: Pap
 port("201 in every slice", threshold=lambda s, i, b: Paper.threshold(s, True, b))
 port("a coefficient at the threshold skipped", threshold=lambda s, i, b: Paper.threshold(s, i, b) + 1)
 port("nothing skipped", is_skipped=lambda s, *of: False)
-port("skip asks the first coefficient alone", is_skipped=lambda s, block, i, c: block.scaled[0] < s.threshold(i, block.b))
-port("skip leaves the last coefficient out", is_skipped=lambda s, block, i, c: all(x < s.threshold(i, block.b) for x in block.scaled[:-1]))
-port("skip asks 64 coefficients at most", is_skipped=lambda s, block, i, c: all(abs(x) * s.q(block.qp) < s.threshold(i, block.b) for x in block.coefficients[:64]))
-port("skip asks for one coefficient below", is_skipped=lambda s, block, i, c: any(x < s.threshold(i, block.b) for x in block.scaled))
+port("skip asks the first coefficient alone", is_skipped=lambda s, block, i, c: block.scaled[0] < s.threshold(
+    i, block.b))
+port("skip leaves the last coefficient out", is_skipped=lambda s, block, i, c: all(
+    x < s.threshold(i, block.b) for x in block.scaled[:-1]))
+port("skip asks 64 coefficients at most", is_skipped=lambda s, block, i, c: all(
+    abs(x) * s.q(block.qp) < s.threshold(i, block.b) for x in block.coefficients[:64]))
+port("skip asks for one coefficient below", is_skipped=lambda s, block, i, c: any(
+    x < s.threshold(i, block.b) for x in block.scaled))
 port("a skipped block's price is D", skipped_price=lambda s, block: block.uncoded[0])
 port("a skipped block's price is the empty block's", skipped_price=lambda s, block: block.empty_price())
 port("a skipped block not cleared", cleared=lambda s, block: list(block.coefficients))
@@ -130,9 +139,12 @@ port("every diagonal from large x to small", diagonal=lambda s, d, side: sorted(
 port("scan by rows", scan=lambda s, side: list(range(side * side)))
 port("scan by columns", scan=lambda s, side: [y * side + x for x in range(side) for y in range(side)])
 port("side 2 turned", scan=lambda s, side: [0, 2, 1, 3] if side == 2 else Paper.scan(s, side))
-port("two places of side 32 exchanged", scan=lambda s, side: two_exchanged(Paper.scan(s, side), 500 if side == 32 else None))
-port("the last two places of side 16 exchanged", scan=lambda s, side: two_exchanged(Paper.scan(s, side), 254 if side == 16 else None))
-port("the last two places of side 32 exchanged", scan=lambda s, side: two_exchanged(Paper.scan(s, side), 1022 if side == 32 else None))
+port("two places of side 32 exchanged", scan=lambda s, side: two_exchanged(
+    Paper.scan(s, side), 500 if side == 32 else None))
+port("the last two places of side 16 exchanged", scan=lambda s, side: two_exchanged(
+    Paper.scan(s, side), 254 if side == 16 else None))
+port("the last two places of side 32 exchanged", scan=lambda s, side: two_exchanged(
+    Paper.scan(s, side), 1022 if side == 32 else None))
 
 # ---- contexts and rates
 def exchanged(entries, start, end):
@@ -144,7 +156,8 @@ def rate_with(more):
     def rate(paper, a, component, before, costs):
         if a < 2:
             return Paper.rate(paper, a, component, before, costs)
-        return paper.SIGN + costs.run[paper.run_context(component, before)][0] + more(a, costs.level, paper.level_row(component))
+        run = costs.run[paper.run_context(component, before)][0]
+        return paper.SIGN + run + more(a, costs.level, paper.level_row(component))
     return rate
 
 
@@ -169,11 +182,14 @@ port("level context j for j+1", rate=rate_with(lambda a, level, j: level[j][1] +
 port("a-1 for a-2", rate=rate_with(lambda a, level, j: level[j][1] + (a - 1) * level[j + 1][1] + level[j + 1][0]))
 port("level[j][1] left out", rate=rate_with(lambda a, level, j: (a - 2) * level[j + 1][1] + level[j + 1][0]))
 port("level[j+1][0] left out", rate=rate_with(lambda a, level, j: level[j][1] + (a - 2) * level[j + 1][1]))
-port("a level of 2 without level[j+1][0]", rate=rate_with(lambda a, level, j: level[j][1] + (a - 2) * level[j + 1][1] + (a > 2) * level[j + 1][0]))
+port("a level of 2 without level[j+1][0]", rate=rate_with(
+    lambda a, level, j: level[j][1] + (a - 2) * level[j + 1][1] + (a > 2) * level[j + 1][0]))
 port("the sign's 32768 left out", SIGN=0)
 port("a zero pays for a sign", rate=lambda s, a, *of: Paper.rate(s, a, *of) + (s.SIGN if a == 0 else 0))
-port("run's two columns exchanged", rate=lambda s, a, k, before, costs: Paper.rate(s, a, k, before, Costs(exchanged(costs.entries, 0, 8))))
-port("level's two columns exchanged", rate=lambda s, a, k, before, costs: Paper.rate(s, a, k, before, Costs(exchanged(costs.entries, 8, 16))))
+port("run's two columns exchanged", rate=lambda s, a, k, before, costs: Paper.rate(
+    s, a, k, before, Costs(exchanged(costs.entries, 0, 8))))
+port("level's two columns exchanged", rate=lambda s, a, k, before, costs: Paper.rate(
+    s, a, k, before, Costs(exchanged(costs.entries, 8, 16))))
 port("the rate wraps to 32 bits", rate=lambda s, *of: wrapped(Paper.rate(s, *of)))
 port("the rate stops at 32 bits", rate=lambda s, *of: min(Paper.rate(s, *of), 2 ** 31 - 1))
 
@@ -200,7 +216,8 @@ port("last's two columns exchanged", last_flag=lambda s, last: last[0], more_fla
 port("cbf[1] left out", coded_flag=lambda s, cbf: 0)
 port("cbf[0] left out of the empty block", empty_flag=lambda s, cbf: 0)
 port("cbf's two columns exchanged", coded_flag=lambda s, cbf: cbf[0], empty_flag=lambda s, cbf: cbf[1])
-port("D over places of m 1 and more alone", zero_distortion=lambda s, block, p: block.distortion(p, 0) if block.rounded[p] else 0)
+port("D over places of m 1 and more alone", zero_distortion=lambda s, block, p: block.distortion(p, 0)
+     if block.rounded[p] else 0)
 
 # ---- walk, cut, count, price
 def without_signs(paper, block, *mode):
@@ -220,17 +237,21 @@ port("a later cut at equal price", cut=lambda s, priced: min(reversed(priced), k
 port("the empty block last at equal price", cut=lambda s, priced: min(priced[1:] + priced[:1], key=lambda p: p[0])[1])
 port("the empty block not tried", cut=lambda s, priced: min(priced[1:] or priced, key=lambda p: p[0])[1])
 port("no cut", cut=lambda s, priced: priced[-1][1])
-port("the first cut that is dearer ends the search", cut=lambda s, priced: next((a[1] for a, b in zip(priced, priced[1:]) if b[0] > a[0]), priced[-1][1]))
+port("the first cut that is dearer ends the search",
+     cut=lambda s, priced: next((a[1] for a, b in zip(priced, priced[1:]) if b[0] > a[0]), priced[-1][1]))
 port("a cut behind a zero level too", may_end=lambda s, a: True)
 port("the count before the cut", count=lambda s, block, levels: sum(a != 0 for a in s.walk(block)))
-port("the count of places to the last", count=lambda s, block, levels: max((p + 1 for p, a in enumerate(levels) if a), default=0))
+port("the count of places to the last", count=lambda s, block, levels: max(
+    (p + 1 for p, a in enumerate(levels) if a), default=0))
 port("the count in 8 bits", count=lambda s, block, levels: Paper.count(s, block, levels) % 256)
 port("the count in 10 bits", count=lambda s, block, levels: Paper.count(s, block, levels) % 1024)
 port("the price by way of an f64", price=lambda s, block, levels: int(float(block.price(levels))))
 port("the price in 32 bits", price=lambda s, block, levels: block.price(levels) % 2 ** 32)
 port("the price before the cut", price=lambda s, block, levels: block.price(s.walk(block)))
-port("the price without the cut's flag", price=lambda s, block, levels: block.price(levels) - block.lambda_ * block.last[1] * any(levels))
-port("the price without what is cut off", price=lambda s, block, levels: block.price(levels) - block.uncoded[max((p + 1 for p, a in enumerate(levels) if a), default=0)])
+port("the price without the cut's flag", price=lambda s, block, levels: block.price(
+    levels) - block.lambda_ * block.last[1] * any(levels))
+port("the price without what is cut off", price=lambda s, block, levels: block.price(levels) - block.uncoded[
+    max((p + 1 for p, a in enumerate(levels) if a), default=0)])
 port("an empty block's price is 0", price=lambda s, block, levels: block.price(levels) if any(levels) else 0)
 port("the two flags exchanged", quantise=lambda s, *of: Paper.quantise(s, *of[:5], of[6], of[5], *of[7:]),
      sub_block=lambda s, *of: Paper.sub_block(s, *of[:5], of[6], of[5], *of[7:]))
@@ -271,7 +292,8 @@ def cleared_when_refused(paper, buffer, log2, *settings):
 
 def sub_block_with(change):
     """The settings changed before the call."""
-    return lambda paper, buffer, luma, run, qp, d, *rest: Paper.sub_block(paper, buffer, luma, run, *change(qp, d), *rest)
+    return lambda paper, buffer, luma, run, qp, d, *rest: Paper.sub_block(
+        paper, buffer, luma, run, *change(qp, d), *rest)
 
 
 def read_by(run, at):
@@ -286,14 +308,16 @@ def read_by(run, at):
 
 def moved(by, of):
     def stretches(paper, luma):
-        return [(start + by, end + by) if k == of else (start, end) for k, (start, end) in enumerate(Paper.stretches(paper, luma))]
+        usual = Paper.stretches(paper, luma)
+        return [(start + by, end + by) if k == of else (start, end) for k, (start, end) in enumerate(usual)]
     return stretches
 
 
 port("Y written before U has been refused", sub_block=early)
 port("coefficients left behind by a refusal", sub_block=left)
 port("a block cleared, then refused", quantise=cleared_when_refused)
-port("U and V merely zeroed", finished=lambda s, block, *mode: Paper.finished(s, block, *mode) if block.component == Y else (0, 0, [0] * len(block.places)))
+port("U and V merely zeroed", finished=lambda s, block, *mode: Paper.finished(s, block, *mode) if block.component == Y
+     else (0, 0, [0] * len(block.places)))
 port("settings read of a component not run", settings_read=lambda s, run: [Y, U, V])
 port("samples read of a component not run", samples_read=lambda s, run: [Y, U, V])
 port("what is not run is cleared", not_run=lambda s, residuals: (0, 0, [0] * len(residuals)))
@@ -304,8 +328,10 @@ port("the mask's bits from 1 on", runs=lambda s, run, k: run >> (k + 1) & 1 == 1
 port("a mask above 7 runs nothing", runs=lambda s, run, k: run < 8 and run >> k & 1 == 1)
 port("everything runs", runs=lambda s, run, k: True)
 port("bits 1 and 2 exchanged", runs=lambda s, run, k: run >> (Y, V, U)[k] & 1 == 1)
-port("test 4 left out when nothing runs", cost_fault=lambda s, costs, run: run & 7 != 0 and Paper.cost_fault(s, costs, run))
-port("test 4 of entries that are read alone", cost_fault=lambda s, costs, run: any(e > s.COST and read_by(run, at) for at, e in enumerate(costs.entries)))
+port("test 4 left out when nothing runs", cost_fault=lambda s, costs, run: run & 7 != 0
+     and Paper.cost_fault(s, costs, run))
+port("test 4 of entries that are read alone", cost_fault=lambda s, costs, run: any(
+    e > s.COST and read_by(run, at) for at, e in enumerate(costs.entries)))
 port("test 4 leaves the last entry out", cost_fault=lambda s, costs, run: any(e > s.COST for e in costs.entries[:27]))
 port("V's stretch a place early", stretches=moved(-1, V))
 port("U's stretch a place early", stretches=moved(-1, U))
@@ -313,7 +339,8 @@ port("U and V exchanged", stretches=lambda s, luma: [Paper.stretches(s, luma)[k]
 port("Y's QP for all", sub_block=sub_block_with(lambda qp, d: ([qp[0]] * 3, d)))
 port("Y's lambda for all", sub_block=sub_block_with(lambda qp, d: (qp, [d[0]] * 3)))
 port("U's settings for V", sub_block=sub_block_with(lambda qp, d: ([qp[0], qp[1], qp[1]], [d[0], d[1], d[1]])))
-port("refusal 5 by what is run", needed=lambda s, luma, run: max([0] + [s.stretches(luma)[k][1] for k in (Y, U, V) if s.runs(run, k)]))
+port("refusal 5 by what is run", needed=lambda s, luma, run: max(
+    [0] + [s.stretches(luma)[k][1] for k in (Y, U, V) if s.runs(run, k)]))
 port("refusal 5 only if something runs", needed=lambda s, luma, run: Paper.needed(s, luma, run) if run & 7 else 0)
 port("refusal 5 by luma alone", needed=lambda s, luma, run: s.places(luma, luma))
 
@@ -331,7 +358,8 @@ def exchange(one, other):
 
 def exchange_components(numbers, one, other):
     """Two components exchanged where these numbers are tested."""
-    return lambda paper, tests: sorted(tests, key=lambda t: place(t[0], {one: other, other: one}.get(t[1], t[1]) if t[0] in numbers else t[1]))
+    return lambda paper, tests: sorted(tests, key=lambda t: place(
+        t[0], {one: other, other: one}.get(t[1], t[1]) if t[0] in numbers else t[1]))
 
 
 def of_another(call, **rules):
@@ -379,19 +407,24 @@ def lets_skipped_pass(paper, buffer, log2, *settings):
 for one in range(1, 9):
     port("quantiser: refusals %d and %d exchanged" % (one, one + 1), **through("quantise", exchange(one, one + 1)))
 for one in range(1, 8):
-    port("three components: refusals %d and %d exchanged" % (one, one + 1), **through("sub_block", exchange(one, one + 1)))
+    port("three components: refusals %d and %d exchanged" % (one, one + 1),
+         **through("sub_block", exchange(one, one + 1)))
 for numbers in ((2,), (3,), (6,), (7, 8, 9)):
     for one, other in ((Y, U), (U, V)):
-        port("refusals %s: %s before %s" % (", ".join(map(str, numbers)), "YUV"[other], "YUV"[one]), ordered=exchange_components(numbers, one, other))
+        port("refusals %s: %s before %s" % (", ".join(map(str, numbers)), "YUV"[other], "YUV"[one]),
+             ordered=exchange_components(numbers, one, other))
 port("transform: refusals 1 and 5 exchanged", **through("transform", exchange(1, 5)))
 port("transform: refusals 5 and 6 exchanged", **through("transform", exchange(5, 6)))
 port("refusal 4 first of all", ordered=lambda s, tests: sorted(tests, key=lambda t: t[0] != 4))
-port("every test of Y, then of U, then of V", ordered=lambda s, tests: sorted(tests, key=lambda t: by_component(t[0], t[1])))
-port("U's 2 after Y's 3", ordered=lambda s, tests: sorted(tests, key=lambda t: (2, t[1]) if t[0] in (2, 3) else (min(t[0], 7), 0)))
+port("every test of Y, then of U, then of V", ordered=lambda s, tests: sorted(
+    tests, key=lambda t: by_component(t[0], t[1])))
+port("U's 2 after Y's 3", ordered=lambda s, tests: sorted(
+    tests, key=lambda t: (2, t[1]) if t[0] in (2, 3) else (min(t[0], 7), 0)))
 port("refusal 6 in the surplus", sampled=lambda s, buffer, n: buffer)
 port("refusal 6 not at the last place", sampled=lambda s, buffer, n: buffer[:n - 1])
 port("refusal 6 not asked of the quantiser", coefficient_fault=lambda s, block: False)
-port("a magnitude of -32768 wraps, so that it is skipped", scaled=lambda s, c, qp: (c if c == -32768 else abs(c)) * s.q(qp),
+port("a magnitude of -32768 wraps, so that it is skipped",
+     scaled=lambda s, c, qp: (c if c == -32768 else abs(c)) * s.q(qp),
      coefficient_fault=lambda s, block: False)
 port("M for M+1 in refusal 8", late_tests=lambda s, k, block: Paper.late_tests(s, k, lambda: without_one(block())))
 port("component 1 for V", ordered=lambda s, tests: [(n, min(k, 1), fault) for n, k, fault in tests])
@@ -407,7 +440,8 @@ port("luma of log2 side 1 taken", LEAST_LUMA=1)
 port("luma of log2 side 2 refused", LEAST_LUMA=3)
 port("QP 64 taken", QP=64)
 port("QP 63 refused", QP=62)
-port("the f64 past 8192 taken", LAMBDA=math.nextafter(8192, 9000), lambda_of=lambda s, d: Paper.lambda_of(s, min(d, 8192.0)))
+port("the f64 past 8192 taken", LAMBDA=math.nextafter(8192, 9000),
+     lambda_of=lambda s, d: Paper.lambda_of(s, min(d, 8192.0)))
 port("lambda 8192 refused", LAMBDA=math.nextafter(8192, 0))
 port("a cost of 1,048,577 taken", COST=1048577)
 port("a cost of 1,048,576 refused", COST=1048575)
@@ -419,7 +453,8 @@ port("a coefficient of 32767 refused", coefficient_fault=lambda s, block: any(ab
 port("m of 32768 taken", LEVEL=32768)
 port("m of 32767 refused", LEVEL=32766)
 port("lambda × (M+1) of 2^41 refused", PRICE=(1 << 41) - 1)
-port("the nearest lambda × (M+1) past 2^41 taken", PRICE=(lambda step, m: step * (m + 1))(*by_hand.nearest_past(1 << 41)))
+port("the nearest lambda × (M+1) past 2^41 taken", PRICE=(lambda step, m: step * (m + 1))(
+    *by_hand.nearest_past(1 << 41)))
 port("D of 2^60 refused", DISTORTION=(1 << 60) - 1)
 port("D of 2^60 + 1 taken", DISTORTION=(1 << 60) + 1)
 port("D of 2^60 + 2,553,385 taken", DISTORTION=(1 << 60) + 2553385)
@@ -467,10 +502,13 @@ reader("upper-case hex read", BITS=rb"[0-9a-fA-F]{16}")
 reader("LAMBDA of any length read", f64=bits_read)
 reader("runs of spaces read as one", split=lambda s, line: [w for w in line.split(b" ") if w] or [b""])
 reader("any white space read", split=lambda s, line: line.split() or [b""])
-reader("a space at the end read", split=lambda s, line: line[:-1].split(b" ") if line.endswith(b" ") else line.split(b" "))
-reader("a space at the front read", split=lambda s, line: line[1:].split(b" ") if line.startswith(b" ") else line.split(b" "))
+reader("a space at the end read", split=lambda s, line: line[:-1].split(b" ") if line.endswith(b" ")
+       else line.split(b" "))
+reader("a space at the front read", split=lambda s, line: line[1:].split(b" ") if line.startswith(b" ")
+       else line.split(b" "))
 reader("a carriage return at the end read", split=lambda s, line: line.rstrip(b"\r").split(b" "))
-reader("verbs read in upper case too", split=lambda s, line: [w.lower() if i == 0 else w for i, w in enumerate(line.split(b" "))])
+reader("verbs read in upper case too", split=lambda s, line: [
+    w.lower() if i == 0 else w for i, w in enumerate(line.split(b" "))])
 reader("what follows a NUL not read", split=lambda s, line: line.split(b"\0")[0].split(b" "))
 reader("the high bit of a byte not read", split=lambda s, line: bytes(c & 127 for c in line).split(b" "))
 reader("words behind the samples not read", end=lambda s: None)
@@ -489,16 +527,19 @@ reader("a flag is yes when it is odd", flag=lambda s: s.u32() % 2 == 1)
 reader("a flag above 1 not read", flag=lambda s: s.whole(0, 1) == 1)
 reader("a line of 58,083 bytes not read", LONGEST_LINE=58082)
 reader("a line of 58,089 bytes not read", LONGEST_LINE=58088)
-port("the rest of a long line read as a line", lines=lambda s, data: [line[i:i + 65535] for line in Paper.lines(s, data) for i in range(0, max(1, len(line)), 65535)])
+port("the rest of a long line read as a line", lines=lambda s, data: [
+    line[i:i + 65535] for line in Paper.lines(s, data) for i in range(0, max(1, len(line)), 65535)])
 port("an empty line passed over", lines=lambda s, data: [line for line in Paper.lines(s, data) if line])
 port("a last line without newline passed over", lines=lambda s, data: data.split(b"\n")[:-1])
-port("the surplus not printed by the transform", transform=lambda s, buffer, lw, lh: Paper.transform(s, buffer, lw, lh)[:s.places(lw, lh)])
+port("the surplus not printed by the transform", transform=lambda s, buffer, lw, lh: Paper.transform(s, buffer, lw, lh)[
+    :s.places(lw, lh)])
 port("the surplus not printed by the quantiser", quantise=quantise_without_surplus)
 port("the surplus not printed by three components", sub_block=sub_block_without_surplus)
 
 # ---- the second mode: these differ from the paper there alone, and are asked its requests alone
 def second(name, **rules):
-    PORTS.append(type("second mode: " + name, (Paper,), {**rules, "asked": staticmethod(lambda line: b"-least" in line[:16])}))
+    PORTS.append(type("second mode: " + name, (Paper,),
+                      {**rules, "asked": staticmethod(lambda line: b"-least" in line[:16])}))
 
 
 def searched(**rules):
@@ -520,8 +561,8 @@ def exchanged_states(paper, block, p, a, before, ahead):
 
 
 def place_by_place(rather):
-    """Forwards, with a price and a front for each of the two states; of two fronts at equal price the one whose last level is of the state `rather`
-    comes first, as if what stands before it didn't matter."""
+    """Forwards, with a price and a front for each of the two states; of two fronts at equal price the one whose last
+    level is of the state `rather` comes first, as if what stands before it didn't matter."""
     def cheapest(paper, block):
         of, fronts = block.lambda_, {1: (block.lambda_ * block.cbf[1], [])}
         least, found = block.empty_price(), []
@@ -529,7 +570,8 @@ def place_by_place(rather):
             longer = {}
             for before in sorted(fronts, reverse=rather == 1):
                 for a in paper.in_order(m):
-                    price, levels, state = fronts[before][0] + block.cost(p, a, before), fronts[before][1] + [a], min(a, 1)
+                    price, levels = fronts[before][0] + block.cost(p, a, before), fronts[before][1] + [a]
+                    state = min(a, 1)
                     if a and price + of * block.last[1] + block.uncoded[p + 1] < least:
                         least, found = price + of * block.last[1] + block.uncoded[p + 1], levels
                     price += of * block.last[0] if a else 0
@@ -541,7 +583,8 @@ def place_by_place(rather):
 
 
 def at_equal_price(key):
-    """Of all blocks of least price the one that comes first by the key of a block and its levels; where there are too many, the paper's."""
+    """Of all blocks of least price the one that comes first by the key of a block and its levels; where there are too
+    many, the paper's."""
     def cheapest(paper, block):
         if math.prod(len(paper.in_order(m)) for m in block.rounded) > 243:
             return Paper.cheapest(paper, block)
@@ -605,7 +648,8 @@ def not_behind(paper, block):
 
 def read_as(**verbs):
     """Words that are read as verbs of the line protocol, and whether they are of the second mode."""
-    return {table: {word.replace("_", "-").encode(): mode for word, mode in words.items()} for table, words in verbs.items()}
+    named = lambda words: {word.replace("_", "-").encode(): mode for word, mode in words.items()}
+    return {table: named(words) for table, words in verbs.items()}
 
 
 def any_verb_with_least(paper, words):
@@ -616,7 +660,8 @@ def any_verb_with_least(paper, words):
 
 second("0 after m at equal price", in_order=nonzero_first)
 second("m before m-1 at equal price", in_order=lambda s, m: [0] + Paper.in_order(s, m)[:0:-1])
-second("going on before ending at equal price", goes_on=lambda s, block, p, ahead: s.going_on(block, ahead) <= s.ending(block, p))
+second("going on before ending at equal price", goes_on=lambda s, block, p, ahead: s.going_on(block, ahead) <= s.ending(
+    block, p))
 second("a coded block before the empty one at equal price",
        is_coded=lambda s, block, ahead: block.lambda_ * block.cbf[1] + ahead[1] <= block.empty_price())
 second("the last in dictionary order", in_order=lambda s, m: Paper.in_order(s, m)[::-1],
@@ -624,7 +669,8 @@ second("the last in dictionary order", in_order=lambda s, m: Paper.in_order(s, m
 second("forwards, a 0 last at equal price", cheapest=place_by_place(1))
 second("forwards, a 0 first at equal price", cheapest=place_by_place(0))
 second("fewest levels at equal price", cheapest=at_equal_price(lambda block, levels: (sum(map(bool, levels)), levels)))
-second("most zeros at the end at equal price", cheapest=at_equal_price(lambda block, levels: (last_level(block, levels), levels)))
+second("most zeros at the end at equal price", cheapest=at_equal_price(
+    lambda block, levels: (last_level(block, levels), levels)))
 second("least sum at equal price", cheapest=at_equal_price(lambda block, levels: (sum(levels), levels)))
 second("dictionary order by rows", cheapest=at_equal_price(by_rows))
 second("dictionary order from the last place on", cheapest=at_equal_price(lambda block, levels: levels[::-1]))
@@ -633,7 +679,8 @@ second("after a 0 and after a level exchanged", least_with=exchanged_states)
 second("searched as if never after a 0", **searched(run_context=lambda s, k, before: s.run_row(k)))
 second("searched as if always after a 0", **searched(run_context=lambda s, k, before: s.run_row(k) + 1))
 second("searched with the first place as after a 0", **searched(start=lambda s: 0))
-second("what follows a level taken as after a 0", going_on=lambda s, block, ahead: Paper.going_on(s, block, (None, ahead[0])))
+second("what follows a level taken as after a 0", going_on=lambda s, block, ahead: Paper.going_on(
+    s, block, (None, ahead[0])))
 second("searched without last[1]", **searched(last_flag=lambda s, last: 0))
 second("searched without last[0]", **searched(more_flag=lambda s, last: 0))
 second("searched with last[0] for the last too", **searched(last_flag=lambda s, last: last[0] + last[1]))
@@ -643,13 +690,16 @@ second("searched without the sign", **searched(SIGN=0))
 second("searched with luma's rows for chroma", **searched(run_row=lambda s, k: 0, level_row=lambda s, k: 0))
 second("searched by rates of 32 bits", **searched(rate=lambda s, *of: wrapped(Paper.rate(s, *of))))
 second("searched by way of f64", least_with=lambda s, *of: float(Paper.least_with(s, *of)))
-second("searched by way of f32", least_with=lambda s, *of: struct.unpack("f", struct.pack("f", Paper.least_with(s, *of)))[0])
+second("searched by way of f32", least_with=lambda s, *of: struct.unpack(
+    "f", struct.pack("f", Paper.least_with(s, *of)))[0])
 second("uncoded places behind the last left out", ending=lambda s, block, p: block.lambda_ * block.last[1])
-second("zeros behind the last level paid for", ending=lambda s, block, p: Paper.ending(s, block, p) + block.lambda_ * (len(block.rounded) - 1 - p))
+second("zeros behind the last level paid for", ending=lambda s, block, p: Paper.ending(s, block, p) + block.lambda_ * (
+    len(block.rounded) - 1 - p))
 second("a block may end with a 0", behind_the_last=lambda s: (0, 0))
 second("the empty block not tried", is_coded=lambda s, block, ahead: ahead[1] < math.inf)
 second("the empty block only where the walk has it", is_coded=lambda s, block, ahead: any(s.chosen(block)))
-second("never ended before the last m above 0", ending=lambda s, block, p: math.inf if any(block.rounded[p + 1:]) else Paper.ending(s, block, p))
+second("never ended before the last m above 0", ending=lambda s, block, p: math.inf if any(block.rounded[p + 1:])
+       else Paper.ending(s, block, p))
 second("m+1 allowed", in_order=lambda s, m: Paper.in_order(s, m) + [m + 1])
 second("m+1 allowed where m isn't 0", in_order=lambda s, m: Paper.in_order(s, m) + [m + 1] * (m > 0))
 second("m-1 not allowed", in_order=lambda s, m: sorted({0, m}))
@@ -675,9 +725,11 @@ second("9 not tested", **not_tested(9))
 for one in range(1, 9):
     second("refusals %d and %d exchanged" % (one, one + 1), **by_a_call("quantise", ordered=exchange(one, one + 1)))
 for one in range(1, 8):
-    second("three components: refusals %d and %d exchanged" % (one, one + 1), **by_a_call("sub_block", ordered=exchange(one, one + 1)))
+    second("three components: refusals %d and %d exchanged" % (one, one + 1),
+           **by_a_call("sub_block", ordered=exchange(one, one + 1)))
 second("settings read of a component not run", **by_a_call("sub_block", settings_read=lambda s, run: [Y, U, V]))
-second("what is not run is cleared", **by_a_call("sub_block", not_run=lambda s, residuals: (0, 0, [0] * len(residuals))))
+second("what is not run is cleared", **by_a_call("sub_block",
+                                                 not_run=lambda s, residuals: (0, 0, [0] * len(residuals))))
 second("the surplus not printed by the quantiser", **in_it("quantise", quantise_without_surplus))
 second("the surplus not printed by three components", **in_it("sub_block", sub_block_without_surplus))
 second("quantise-least read as quantise", **read_as(QUANTISE={"quantise": False, "quantise_least": False}))
@@ -691,16 +743,20 @@ port("quantise-l read too", **read_as(QUANTISE={"quantise": False, "quantise_lea
 port("quantise-most read too", **read_as(QUANTISE={"quantise": False, "quantise_least": True, "quantise_most": True}))
 
 # ---- ports that can't differ: what is said of them is checked as far as the stored requests go
-equal("7, 8 and 9 asked of a skipped block too", "there m is at most 1, lambda × 2 at most 2^29, D below 2^57", meets_late_tests=lambda s, block: True)
+equal("7, 8 and 9 asked of a skipped block too", "there m is at most 1, lambda × 2 at most 2^29, D below 2^57",
+      meets_late_tests=lambda s, block: True)
 equal("-32768 let through where the block is skipped", "no QP skips a magnitude of 32768", quantise=lets_skipped_pass)
 equal("7 of Y, U, V, then 8, then 9", "of three components only luma of side 32 reaches 7, and none reaches 9",
       ordered=lambda s, tests: sorted(tests, key=lambda t: t[0]))
 equal("three components: refusals 8 and 9 exchanged", "no residuals reach 9", **through("sub_block", exchange(8, 9)))
-equal("the source's cap on L", "32767 × 26214 is below it", scaled=lambda s, c, qp: min(Paper.scaled(s, c, qp), 2 ** 31 - 1 - (1 << 13)))
+equal("the source's cap on L", "32767 × 26214 is below it",
+      scaled=lambda s, c, qp: min(Paper.scaled(s, c, qp), 2 ** 31 - 1 - (1 << 13)))
 equal("m-1 tried where m is 1", "it is 0 once more", allowed=lambda s, m: [0, m] + ([m - 1] if m else []))
-equal("second mode: m-1 allowed where m is 1", "it is 0 once more", in_order=lambda s, m: [0] + [m - 1] * (m > 0) + [m] * (m > 0))
+equal("second mode: m-1 allowed where m is 1", "it is 0 once more",
+      in_order=lambda s, m: [0] + [m - 1] * (m > 0) + [m] * (m > 0))
 equal("second mode: not searched behind the last m above 0", "no nonzero level can come there", ahead=not_behind)
-equal("a line of more than 65,535 bytes read", "the longest request that can be read has 58,089", Words=type("Words", (Words,), {"LONGEST_LINE": 10 ** 9}))
+equal("a line of more than 65,535 bytes read", "the longest request that can be read has 58,089",
+      Words=type("Words", (Words,), {"LONGEST_LINE": 10 ** 9}))
 equal("lambda × (M+1) of 2^41 + 3 taken", "the nearest product past 2^41 is 2^41 + 4", PRICE=(1 << 41) + 3)
 
 
@@ -718,7 +774,8 @@ def stored():
         asked = [(section == vectors.BY_CHANCE) == is_chance for section, _ in vectors.requests()]
         requests, answers = ([line for line, of_it in zip(lines, asked) if of_it] for lines in files)
         parts.append((b"\n".join(requests), answers))
-    assert len(files[0]) == len(files[1]) == len(asked), "the stored requests are those of tools/vectors: run tools/record"
+    same = len(files[0]) == len(files[1]) == len(asked)
+    assert same, "the stored requests are those of tools/vectors: run tools/record"
     return parts
 
 
@@ -744,7 +801,8 @@ def tried(job):
 
 def row(paper, hand, chance, enough, sections):
     count = lambda wrong: "%d%s" % (wrong, "+" if wrong == enough else "")
-    first = "by hand %d, %s" % (hand[1], sections[hand[1] - 1]) if hand[0] else "by chance %d" % chance[1] if chance[0] else "-"
+    first = "by hand %d, %s" % (hand[1], sections[hand[1] - 1]) if hand[0] else "by chance %d" % chance[1] if chance[
+        0] else "-"
     name = "the paper itself" if paper is Paper else paper.__name__
     return "%-66s %7s %9s  %s" % (name, count(hand[0]), count(chance[0]), first)
 

@@ -1,8 +1,8 @@
 //! What the Rust that was ported, built with overflow checks, answers to request lines of the protocol: one line for
-//! each, to be recorded (tools/record). It asks nothing of the library. The requests must be well-formed and accepted by
-//! document 01's refusals; of the buffer only the block is answered, without a surplus. The Rust reports no price: what
-//! stands for it is the best cost that its walk has found, handed out by one line that the probe adds to its text, and 0
-//! where it has not walked.
+//! each, to be recorded (tools/record). It asks nothing of the library. The requests must be well-formed and accepted
+//! by document 01's refusals; of the buffer only the block is answered, without a surplus. The Rust reports no price:
+//! what stands for it is the best cost that its walk has found, handed out by one line that the probe adds to its text,
+//! and 0 where it has not walked.
 //!
 //!     transform   : c1 .. cN
 //!     quantise    COUNT PRICE : c1 .. cN
@@ -87,8 +87,7 @@ impl SubBlock {
         let (mut y, mut u, mut v) = (self.y.clone(), self.u.clone(), self.v.clone());
         let (log2, coded, slice) = (self.log2, self.intra_coded, self.intra_slice);
         let (qp, lambda, costs) = (self.qp, self.lambda, &self.costs);
-        let counts =
-            oracle::sub_block(&mut y, &mut u, &mut v, log2, log2, qp, lambda, coded, slice, run as u8, costs);
+        let counts = oracle::sub_block(&mut y, &mut u, &mut v, log2, log2, qp, lambda, coded, slice, run as u8, costs);
         (counts, oracle::price_probe(), [y, u, v].concat())
     }
 }

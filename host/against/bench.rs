@@ -1,5 +1,6 @@
-//! Times the calls beside the Rust's release build, and the second mode beside the walk, in one process: nanoseconds a call, the best of
-//! several rounds, with what the copy of the input takes off; and how much the second mode saves. `bench [transform|quantise|least]`.
+//! Times the calls beside the Rust's release build, and the second mode beside the walk, in one process: nanoseconds a
+//! call, the best of several rounds, with what the copy of the input takes off; and how much the second mode saves.
+//! `bench [transform|quantise|least]`.
 
 mod blocks;
 mod recorder;
@@ -27,9 +28,14 @@ fn best(blocks: &[Vec<i16>], repeat: usize, mut call: impl FnMut(&mut [i16])) ->
 }
 
 fn main() {
-    let tables: [(&str, fn()); 4] = [("transform", transforms), ("quantise", quantisers), ("least", modes), ("least", savings)];
+    let tables: [(&str, fn()); 4] =
+        [("transform", transforms), ("quantise", quantisers), ("least", modes), ("least", savings)];
     let asked = std::env::args().nth(1);
-    let wanted: Vec<fn()> = tables.iter().filter(|(name, _)| asked.as_ref().is_none_or(|word| word == name)).map(|(_, table)| *table).collect();
+    let wanted: Vec<fn()> = tables
+        .iter()
+        .filter(|(name, _)| asked.as_ref().is_none_or(|word| word == name))
+        .map(|(_, table)| *table)
+        .collect();
     if wanted.is_empty() {
         eprintln!("usage: bench [transform|quantise|least]");
         std::process::exit(2);
@@ -60,7 +66,8 @@ fn transforms() {
 }
 
 fn quantisers() {
-    let flat: Vec<i32> = [&COSTS.run[..], &COSTS.level, &COSTS.last, &COSTS.cbf].concat().iter().map(|x| *x as i32).collect();
+    let flat: Vec<i32> =
+        [&COSTS.run[..], &COSTS.level, &COSTS.last, &COSTS.cbf].concat().iter().map(|x| *x as i32).collect();
     let settings = Settings { qp: recorder::QP, lambda: recorder::LAMBDA };
     println!("\n| side | blocks | nonzero levels | Rust ns | Galemosu ns | times as fast |");
     println!("|---|---|---|---|---|---|");
@@ -77,7 +84,12 @@ fn quantisers() {
         let mine = best(&blocks, repeat, |b| {
             std::hint::black_box(ours(b));
         }) - copy;
-        println!("| {} | {kind} | {} | {rust:.0} | {mine:.0} | {:.2} |", 1 << log2, levels / recorder::BLOCKS as u32, rust / mine);
+        println!(
+            "| {} | {kind} | {} | {rust:.0} | {mine:.0} | {:.2} |",
+            1 << log2,
+            levels / recorder::BLOCKS as u32,
+            rust / mine
+        );
     }
 }
 
@@ -98,34 +110,47 @@ fn modes() {
                 std::hint::black_box(call(b));
             }) - copy
         });
-        println!("| {} | {kind} | {} | {walked:.0} | {searched:.0} | {:.2} |", 1 << log2, levels / recorder::BLOCKS as u32, searched / walked);
+        println!(
+            "| {} | {kind} | {} | {walked:.0} | {searched:.0} | {:.2} |",
+            1 << log2,
+            levels / recorder::BLOCKS as u32,
+            searched / walked
+        );
     }
 }
 
 /// How many blocks each row of the savings is about.
 const SAVED: usize = 500;
 
-/// What the second mode saves of the walk's price on a label's strokes, at a quarter of the usual lambda, at it, and at four times it.
+/// What the second mode saves of the walk's price on a label's strokes, at a quarter of the usual lambda, at it, and at
+/// four times it.
 fn savings() {
     println!("\n| side | blocks | lambda | other levels than the walk's | saved of its price, mean | most |");
     println!("|---|---|---|---|---|---|");
     let mut random = Random::new(13);
     for log2 in 2..=5 {
         let (w, n) = (1usize << log2, 1usize << (2 * log2));
-        for (kind, one) in [("soft text", Random::soft_text as fn(&mut Random, usize, usize) -> Vec<i16>), ("sharp text", Random::text)] {
+        for (kind, one) in [
+            ("soft text", Random::soft_text as fn(&mut Random, usize, usize) -> Vec<i16>),
+            ("sharp text", Random::text),
+        ] {
             let mut blocks: Vec<Vec<i16>> = (0..SAVED).map(|_| one(&mut random, w, n)).collect();
             blocks.iter_mut().for_each(|b| transform(b, log2, log2).unwrap());
             for lambda in [recorder::LAMBDA / 4.0, recorder::LAMBDA, recorder::LAMBDA * 4.0] {
                 let (others, saved) = saving(log2, lambda, &blocks);
                 let most = saved.iter().copied().fold(0.0, f64::max);
                 let mean = saved.iter().sum::<f64>() / SAVED as f64;
-                println!("| {w} | {kind} | {lambda:.1} | {:.1} % | {mean:.3} % | {most:.2} % |", 100.0 * others as f64 / SAVED as f64);
+                println!(
+                    "| {w} | {kind} | {lambda:.1} | {:.1} % | {mean:.3} % | {most:.2} % |",
+                    100.0 * others as f64 / SAVED as f64
+                );
             }
         }
     }
 }
 
-/// How many blocks the two modes leave with other levels, and the percentage that the second saves of each block's price.
+/// How many blocks the two modes leave with other levels, and the percentage that the second saves of each block's
+/// price.
 fn saving(log2: usize, lambda: f64, blocks: &[Vec<i16>]) -> (usize, Vec<f64>) {
     let settings = Settings { qp: recorder::QP, lambda };
     let mut others = 0;
@@ -135,7 +160,11 @@ fn saving(log2: usize, lambda: f64, blocks: &[Vec<i16>]) -> (usize, Vec<f64>) {
         let least = quantise_least(&mut searched, log2, Component::Y, settings, true, true, &COSTS).unwrap().price;
         others += (walked != searched) as usize;
         // a skipped block has the price 0 in both
-        if walk == 0 { 0.0 } else { 100.0 * (walk - least) as f64 / walk as f64 }
+        if walk == 0 {
+            0.0
+        } else {
+            100.0 * (walk - least) as f64 / walk as f64
+        }
     };
     let saved = blocks.iter().map(saved).collect();
     (others, saved)

@@ -37,7 +37,11 @@ impl Random {
 
     /// A magnitude of either sign.
     pub fn signed(&mut self, magnitude: i128) -> i16 {
-        if self.yes() { magnitude as i16 } else { -magnitude as i16 }
+        if self.yes() {
+            magnitude as i16
+        } else {
+            -magnitude as i16
+        }
     }
 
     /// n accepted residuals: the whole range, small ones, the two limits, or mostly zeros.
@@ -47,15 +51,28 @@ impl Random {
             .map(|_| match kind {
                 0 => self.between(-1023, 1023) as i16,
                 1 => self.between(-20, 20) as i16,
-                2 => if self.below(2) == 0 { 1023 } else { -1023 },
-                _ => if self.below(12) == 0 { self.between(-1023, 1023) as i16 } else { 0 },
+                2 => {
+                    if self.below(2) == 0 {
+                        1023
+                    } else {
+                        -1023
+                    }
+                }
+                _ => {
+                    if self.below(12) == 0 {
+                        self.between(-1023, 1023) as i16
+                    } else {
+                        0
+                    }
+                }
             })
             .collect()
     }
 
     /// A part of a label under a flat prediction: dark strokes on light ground, w wide.
     pub fn text(&mut self, w: usize, n: usize) -> Vec<i16> {
-        let (pitch, width, ink) = (4 + self.below(6) as usize, 1 + self.below(3) as usize, 300 + self.below(500) as i16);
+        let (pitch, width, ink) =
+            (4 + self.below(6) as usize, 1 + self.below(3) as usize, 300 + self.below(500) as i16);
         (0..n)
             .map(|i| {
                 let (x, y) = (i % w, i / w);
@@ -81,7 +98,9 @@ impl Random {
     /// Light that falls off over the block.
     pub fn ramp(&mut self, w: usize, n: usize) -> Vec<i16> {
         let slope = 20 + self.below(60) as i64;
-        (0..n).map(|i| ((i % w + i / w) as i64 * slope * 8 / w as i64 - slope * 8 + self.between(-2, 2)) as i16).collect()
+        (0..n)
+            .map(|i| ((i % w + i / w) as i64 * slope * 8 / w as i64 - slope * 8 + self.between(-2, 2)) as i16)
+            .collect()
     }
 
     /// A blank part of a label: noise alone.

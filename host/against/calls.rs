@@ -1,5 +1,5 @@
-//! The three calls with all their inputs, made at random: sound ones, such at the limits of the late refusals, and such with several
-//! faults at once, so that the order of the tests shows.
+//! The three calls with all their inputs, made at random: sound ones, such at the limits of the late refusals, and such
+//! with several faults at once, so that the order of the tests shows.
 
 use crate::blocks::Random;
 use crate::limits::to_a_limit;
@@ -152,7 +152,8 @@ pub fn quantise(random: &mut Random, log2_side: usize, qp: u32, component: Compo
     call
 }
 
-/// A three-component call of the given luma side and run bits, or a faulty one. A component that is not run holds anything.
+/// A three-component call of the given luma side and run bits, or a faulty one. A component that is not run holds
+/// anything.
 pub fn sub_block(random: &mut Random, log2_luma: usize, run: u32, faulty: bool) -> SubBlock {
     let steep = random.below(8) == 0;
     let settings = [0; 3].map(|_| {
@@ -267,7 +268,18 @@ impl Random {
     fn wrong_lambda(&mut self) -> f64 {
         let just_above = f64::from_bits(8192f64.to_bits() + 1);
         let signalling = f64::from_bits(0x7ff0_0000_0000_0001);
-        let refused = [f64::NAN, -f64::NAN, signalling, f64::INFINITY, f64::NEG_INFINITY, -5e-324, -1.0, -8192.0, just_above, 1e300];
+        let refused = [
+            f64::NAN,
+            -f64::NAN,
+            signalling,
+            f64::INFINITY,
+            f64::NEG_INFINITY,
+            -5e-324,
+            -1.0,
+            -8192.0,
+            just_above,
+            1e300,
+        ];
         self.one(&refused)
     }
 

@@ -1,7 +1,7 @@
-//! Holds the three calls against the Rust that they were ported from, built with overflow checks, and against document 01 worked out
-//! apart (paper.rs), and the second mode of two of them against the cheapest block found apart (least.rs):
-//! `compare transform|quantise|sub_block|least|all [N]`, N random accepted calls of each. Status 0 when nothing differed and all that must
-//! come has come.
+//! Holds the three calls against the Rust that they were ported from, built with overflow checks, and against document
+//! 01 worked out apart (paper.rs), and the second mode of two of them against the cheapest block found apart
+//! (least.rs): `compare transform|quantise|sub_block|least|all [N]`, N random accepted calls of each. Status 0 when
+//! nothing differed and all that must come has come.
 
 mod blocks;
 mod calls;
@@ -20,8 +20,11 @@ use tally::Tally;
 
 /// A comparison and how many accepted calls it takes where no number is given.
 type Comparison = (&'static str, fn(u64) -> Tally, u64);
-const COMPARISONS: [Comparison; 3] =
-    [("transform", transform::compare, 300_000), ("quantise", quantise::compare, 450_000), ("sub_block", sub_block::compare, 250_000)];
+const COMPARISONS: [Comparison; 3] = [
+    ("transform", transform::compare, 300_000),
+    ("quantise", quantise::compare, 450_000),
+    ("sub_block", sub_block::compare, 250_000),
+];
 /// The second mode, which the Rust has not.
 const LEAST: Comparison = ("least", least::compare, 120_000);
 
@@ -55,7 +58,8 @@ fn main() {
         different += tally.different;
     }
     if what != LEAST.0 {
-        println!("in all: {both} accepted through both, {beyond} past the Rust's 32-bit rate, {refused} refused, {different} different");
+        print!("in all: {both} accepted through both, {beyond} past the Rust's 32-bit rate, ");
+        println!("{refused} refused, {different} different");
     }
     if what == "all" || what == LEAST.0 {
         good &= LEAST.1(number.unwrap_or(LEAST.2)).report();

@@ -1,13 +1,13 @@
-/* The program whose instructions host/count-x86 counts: linked once with the library's archive and once with the Rust, each of
- * which has galemosu_transform and galemosu_quantise_y. It stands on nothing but Linux on x86-64.
+/* The program whose instructions host/count-x86 counts: linked once with the library's archive and once with the
+ * Rust, each of which has galemosu_transform and galemosu_quantise_y. It stands on nothing but Linux on x86-64.
  *
  *   count transform LOG2_W LOG2_H 1   TURNS times: copy a block of random residuals in, and transform it
- *   count quantise LOG2 LOG2 1        for each of BLOCKS blocks of a file of samples.rs on standard input, transformed: copy it in,
- *                                     and quantise it
+ *   count quantise LOG2 LOG2 1        for each of BLOCKS blocks of a file of samples.rs on standard input, transformed:
+ *                                     copy it in, and quantise it
  *
- * With 0 for 1 the same, with a call of two instructions that do nothing for the one that is counted. Writes a checksum of what the
- * calls left, and of the quantiser's counts. What it does beside the calls takes as many instructions with 1 as with 0, whatever the
- * blocks hold. Status 0 when every call was accepted. */
+ * With 0 for 1 the same, with a call of two instructions that do nothing for the one that is counted. Writes a
+ * checksum of what the calls left, and of the quantiser's counts. What it does beside the calls takes as many
+ * instructions with 1 as with 0, whatever the blocks hold. Status 0 when every call was accepted. */
 
 typedef unsigned long size_t;
 typedef unsigned long u64;
@@ -33,7 +33,8 @@ __asm__(".globl _start\n"
         "no_transform: no_quantise: xor %eax, %eax\n"
         "ret\n");
 
-/* Sixteen bytes at a store, as on a processor of which no more is known than x86-64; the compiler unrolls the loop further. */
+/* Sixteen bytes at a store, as on a processor of which no more is known than x86-64; the compiler unrolls the loop
+ * further. */
 void *memset(void *to, int byte, size_t n)
 {
     char *at = to, b = (char)byte;

@@ -1,7 +1,8 @@
-//! The second mode, for which there is no Rust, against the cheapest block of all, found here in two ways that share nothing with the library:
-//! `listed` tries all blocks of allowed magnitudes, where they are few; `forwards` takes a block of any size. What levels cost is document
-//! 01's (paper.rs). An accepted block must be that one, its price the document's and never above the walk's, the surplus untouched; a
-//! refused call must be refused as the walk's call is, and left as it was.
+//! The second mode, for which there is no Rust, against the cheapest block of all, found here in two ways that share
+//! nothing with the library: `listed` tries all blocks of allowed magnitudes, where they are few; `forwards` takes a
+//! block of any size. What levels cost is document 01's (paper.rs). An accepted block must be that one, its price the
+//! document's and never above the walk's, the surplus untouched; a refused call must be refused as the walk's call is,
+//! and left as it was.
 
 use crate::blocks::Random;
 use crate::calls::{self, Quantise, SubBlock, COMPONENTS};
@@ -16,7 +17,8 @@ const ALL: &[usize] = &[0, 1, 2];
 /// As many blocks are listed at most: five places of three magnitudes.
 const MOST_LISTED: usize = 243;
 
-/// The grid's 2×2 blocks, then this many accepted calls and more: blocks of a few coefficients, blocks at equal prices, and calls of any kind.
+/// The grid's 2×2 blocks, then this many accepted calls and more: blocks of a few coefficients, blocks at equal prices,
+/// and calls of any kind.
 pub fn compare(accepted: u64) -> Tally {
     let refusals = [(1, &[0][..]), (2, ALL), (3, ALL), (4, &[0]), (5, &[0]), (6, ALL), (7, ALL), (8, ALL), (9, ALL)];
     let kinds = [
@@ -75,7 +77,18 @@ fn grid(tally: &mut Tally, random: &mut Random) {
                 let buffer = [216, 36, 6, 1].map(|radix| values[i / radix % 6]).to_vec();
                 let (intra_slice, intra_coded) = (i % 2 == 0, i % 4 < 2);
                 let settings = Settings { qp: 4, lambda };
-                one(tally, &Quantise { buffer, log2_side: 1, component: COMPONENTS[i % 3], settings, intra_slice, intra_coded, costs });
+                one(
+                    tally,
+                    &Quantise {
+                        buffer,
+                        log2_side: 1,
+                        component: COMPONENTS[i % 3],
+                        settings,
+                        intra_slice,
+                        intra_coded,
+                        costs,
+                    },
+                );
             }
         }
     }
@@ -98,8 +111,8 @@ fn few(random: &mut Random, component: Component) -> Quantise {
     call
 }
 
-/// A block of quarters of a step, with steps, lambda and costs that are powers of two or small multiples of one: most blocks are not the only
-/// ones of least price.
+/// A block of quarters of a step, with steps, lambda and costs that are powers of two or small multiples of one: most
+/// blocks are not the only ones of least price.
 fn tied(random: &mut Random, log2_side: usize, component: Component) -> Quantise {
     let j = random.between(2, 5);
     let quarter = 1i128 << (3 + j - log2_side as i64);
@@ -124,12 +137,22 @@ fn equal(entry: u64) -> Costs {
 fn even(random: &mut Random) -> Costs {
     let most = random.one(&[3, 6, 24]);
     let mut entry = || 8192 * random.below(most);
-    Costs { run: [0; 8].map(|_| entry()), level: [0; 8].map(|_| entry()), last: [0; 4].map(|_| entry()), cbf: [0; 8].map(|_| entry()) }
+    Costs {
+        run: [0; 8].map(|_| entry()),
+        level: [0; 8].map(|_| entry()),
+        last: [0; 4].map(|_| entry()),
+        cbf: [0; 8].map(|_| entry()),
+    }
 }
 
 fn usual(random: &mut Random) -> Costs {
     let mut entry = || 4096 + random.below(160_000);
-    Costs { run: [0; 8].map(|_| entry()), level: [0; 8].map(|_| entry()), last: [0; 4].map(|_| entry()), cbf: [0; 8].map(|_| entry()) }
+    Costs {
+        run: [0; 8].map(|_| entry()),
+        level: [0; 8].map(|_| entry()),
+        last: [0; 4].map(|_| entry()),
+        cbf: [0; 8].map(|_| entry()),
+    }
 }
 
 // ---- what must come of them
@@ -137,8 +160,12 @@ fn usual(random: &mut Random) -> Costs {
 fn one(tally: &mut Tally, call: &Quantise) {
     let (mut ours, mut walked) = (call.buffer.clone(), call.buffer.clone());
     let (slice, coded) = (call.intra_slice, call.intra_coded);
-    let answer = galemosu::quantise_least(&mut ours, call.log2_side, call.component, call.settings, slice, coded, &call.costs).map_err(fault_of);
-    let walk = galemosu::quantise(&mut walked, call.log2_side, call.component, call.settings, slice, coded, &call.costs).map_err(fault_of);
+    let answer =
+        galemosu::quantise_least(&mut ours, call.log2_side, call.component, call.settings, slice, coded, &call.costs)
+            .map_err(fault_of);
+    let walk =
+        galemosu::quantise(&mut walked, call.log2_side, call.component, call.settings, slice, coded, &call.costs)
+            .map_err(fault_of);
     let good = match (order::quantise(call), walk) {
         (Some(fault), Err(same)) => refused(tally, &answer, fault) && same == fault && ours == call.buffer,
         (None, Ok(walk)) => answer.is_ok_and(|coded| {
@@ -157,8 +184,11 @@ fn one(tally: &mut Tally, call: &Quantise) {
 fn three(tally: &mut Tally, call: &SubBlock) {
     let (mut ours, mut walked) = (call.buffer.clone(), call.buffer.clone());
     let (slice, coded) = (call.intra_slice, call.intra_coded);
-    let answer = galemosu::sub_block_least(&mut ours, call.log2_luma, &call.settings, call.run, slice, coded, &call.costs).map_err(fault_of);
-    let walk = galemosu::sub_block(&mut walked, call.log2_luma, &call.settings, call.run, slice, coded, &call.costs).map_err(fault_of);
+    let answer =
+        galemosu::sub_block_least(&mut ours, call.log2_luma, &call.settings, call.run, slice, coded, &call.costs)
+            .map_err(fault_of);
+    let walk = galemosu::sub_block(&mut walked, call.log2_luma, &call.settings, call.run, slice, coded, &call.costs)
+        .map_err(fault_of);
     let good = match (order::sub_block(call), walk) {
         (Some(fault), Err(same)) => refused(tally, &answer, fault) && same == fault && ours == call.buffer,
         (None, Ok(walk)) => answer.is_ok_and(|coded| {
@@ -173,7 +203,8 @@ fn three(tally: &mut Tally, call: &SubBlock) {
     tally.hold(good, call, &answer);
 }
 
-/// Whether one component of an accepted call is as it must be: what the call answered and left, and what the walk's did.
+/// Whether one component of an accepted call is as it must be: what the call answered and left, and what the walk's
+/// did.
 fn component(tally: &mut Tally, call: &SubBlock, k: usize, ours: (Coded, &[i16]), walk: (Coded, &[i16])) -> bool {
     let part = call.part(k);
     if !call.runs(k) {
@@ -195,7 +226,10 @@ fn cheapest(tally: &mut Tally, block: &Block, coded: Coded, levels: &[i16], walk
     let kind = if levels == walked { 0 } else { 1 + (coded.price < walk.price) as usize };
     tally.kind("of the walk's block, one of its price and a cheaper one", kind);
     let right = if block.skipped() { vec![0; levels.len()] } else { found(tally, block) };
-    levels == right && coded.count as usize == count && coded.price as i128 == block.price(levels) && coded.price <= walk.price
+    levels == right
+        && coded.count as usize == count
+        && coded.price as i128 == block.price(levels)
+        && coded.price <= walk.price
 }
 
 /// The cheapest block, listed where that can be; the two ways must agree.
@@ -230,7 +264,12 @@ fn allowed(block: &Block) -> Vec<Vec<i128>> {
 /// The first of least price in dictionary order, and whether there is another; nothing if there are too many blocks.
 fn listed(block: &Block) -> Option<(Vec<i128>, bool)> {
     let allowed = allowed(block);
-    if allowed.iter().map(|some| some.len()).try_fold(1, |n: usize, k| (n * k <= MOST_LISTED).then_some(n * k)).is_none() {
+    if allowed
+        .iter()
+        .map(|some| some.len())
+        .try_fold(1, |n: usize, k| (n * k <= MOST_LISTED).then_some(n * k))
+        .is_none()
+    {
         return None;
     }
     let mut all = vec![vec![]];
@@ -244,12 +283,13 @@ fn listed(block: &Block) -> Option<(Vec<i128>, bool)> {
     Some((all[first][..end].to_vec(), prices[first + 1..].contains(least)))
 }
 
-/// A price, and the magnitudes up to a place: the lesser is the cheaper, and at equal price the first in dictionary order. A finished block
-/// has no zeros behind its last level, so that it comes before all that goes on from it.
+/// A price, and the magnitudes up to a place: the lesser is the cheaper, and at equal price the first in dictionary
+/// order. A finished block has no zeros behind its last level, so that it comes before all that goes on from it.
 type Front = (i128, Vec<i128>);
 
-/// From the first place on, the least front whose last magnitude is 0 and the least whose last is not: of two with the same to come, the
-/// lesser serves every block at least as well. A front pays for each of its levels as one that others follow.
+/// From the first place on, the least front whose last magnitude is 0 and the least whose last is not: of two with the
+/// same to come, the lesser serves every block at least as well. A front pays for each of its levels as one that others
+/// follow.
 fn forwards(block: &Block) -> Vec<i128> {
     let places = scan(1 << block.log2_side);
     let mut rest = block.uncoded();

@@ -38,7 +38,8 @@ fn theirs(call: &Call) -> String {
     match catch_unwind(run) {
         Ok(_) => {
             let outside = (1 << (w + h)..block.len()).filter(|i| block[*i] != call.block[*i]).count();
-            let behind = if outside > 0 { format!("; {outside} places behind the block changed") } else { String::new() };
+            let behind =
+                if outside > 0 { format!("; {outside} places behind the block changed") } else { String::new() };
             shown(&block[..1 << (w + h)]) + &behind
         }
         Err(panic) => {

@@ -1,4 +1,5 @@
-//! Calls of the quantiser at a limit: of the skip, of the refusals 7, 8 and 9, on this side of it or just beyond; and at equal prices.
+//! Calls of the quantiser at a limit: of the skip, of the refusals 7, 8 and 9, on this side of it or just beyond; and
+//! at equal prices.
 
 use crate::blocks::Random;
 use crate::calls::Quantise;
@@ -24,7 +25,8 @@ fn to_the_skip(random: &mut Random, call: &mut Quantise, beyond: i128) {
     put(random, call, walked - 1 + beyond);
 }
 
-/// The largest coefficient whose rounded magnitude is at most 32767, or the next; alone, at a lambda that is low enough.
+/// The largest coefficient whose rounded magnitude is at most 32767, or the next; alone, at a lambda that is low
+/// enough.
 fn to_refusal_7(random: &mut Random, call: &mut Quantise, beyond: i128) {
     let (bits, q) = (call.block().bits(), call.block().q());
     let most = ((32768 << bits) - (1 << (bits - 1)) - 1) / q;
@@ -59,7 +61,8 @@ fn to_refusal_9(random: &mut Random, call: &mut Quantise, beyond: i128) {
     }
 }
 
-/// With equal costs and q = 2^14, coefficients of exactly one step, at the lambda where coding one of them costs what it saves.
+/// With equal costs and q = 2^14, coefficients of exactly one step, at the lambda where coding one of them costs what
+/// it saves.
 fn to_a_tie(random: &mut Random, call: &mut Quantise) {
     let j = random.below(10);
     let step = (32i128 << j) >> call.log2_side;

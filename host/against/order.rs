@@ -1,4 +1,5 @@
-//! Which refusal document 01 gives a call, and of which component: the tests of each call, in its order, written from its text alone.
+//! Which refusal document 01 gives a call, and of which component: the tests of each call, in its order, written from
+//! its text alone.
 
 use crate::calls::{Quantise, SubBlock, Transform};
 
@@ -33,8 +34,8 @@ pub fn transform(call: &Transform) -> Option<Fault> {
     ])
 }
 
-/// "The quantiser alone tests all nine in the table's order, 7 to 9 only for a walked block, and reports the component it was told (0
-/// for 1, 4 and 5)."
+/// "The quantiser alone tests all nine in the table's order, 7 to 9 only for a walked block, and reports the component
+/// it was told (0 for 1, 4 and 5)."
 pub fn quantise(call: &Quantise) -> Option<Fault> {
     let told = call.component as usize;
     first(vec![
@@ -50,8 +51,8 @@ pub fn quantise(call: &Quantise) -> Option<Fault> {
     ])
 }
 
-/// "The three-component call tests 1; 2 for Y, U, V; 3 likewise; 4; 5; 6 likewise; then 7, 8, 9 for Y, then U, then V [..]. Settings and
-/// samples of a component not run aren't read; test 4 reads every cost entry all the same."
+/// "The three-component call tests 1; 2 for Y, U, V; 3 likewise; 4; 5; 6 likewise; then 7, 8, 9 for Y, then U, then V
+/// [..]. Settings and samples of a component not run aren't read; test 4 reads every cost entry all the same."
 pub fn sub_block(call: &SubBlock) -> Option<Fault> {
     let run: Vec<usize> = (0..3).filter(|k| call.runs(*k)).collect();
     let mut tests: Vec<Test> = vec![(1, 0, Box::new(|| !(2..=5).contains(&call.log2_luma)))];

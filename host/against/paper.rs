@@ -1,5 +1,6 @@
-//! Document 01 worked out apart from the library: the transform as the sum that defines it; of the quantiser the skip, the faults 7
-//! to 9, the levels and what they cost, in 128-bit whole numbers. Slow and plain: it is there to be held against the text.
+//! Document 01 worked out apart from the library: the transform as the sum that defines it; of the quantiser the skip,
+//! the faults 7 to 9, the levels and what they cost, in 128-bit whole numbers. Slow and plain: it is there to be held
+//! against the text.
 
 use galemosu::{Component, Costs};
 
@@ -7,7 +8,8 @@ const SCALES: [i128; 6] = [26214, 23302, 20560, 18396, 16384, 14564];
 
 /// c(0) to c(31): the first column of T_32.
 const FIRST_COLUMN: [i64; 32] = [
-    64, 90, 90, 90, 89, 88, 87, 85, 84, 82, 80, 78, 75, 73, 70, 67, 64, 61, 57, 54, 50, 47, 43, 39, 35, 30, 26, 22, 18, 13, 9, 4,
+    64, 90, 90, 90, 89, 88, 87, 85, 84, 82, 80, 78, 75, 73, 70, 67, 64, 61, 57, 54, 50, 47, 43, 39, 35, 30, 26, 22, 18,
+    13, 9, 4,
 ];
 
 /// T_N[k][n] of N = 2^log2.
@@ -18,7 +20,11 @@ fn matrix(log2: usize, k: usize, n: usize) -> i64 {
     }
     let a = (2 * n + 1) * k % 128;
     let a = if a > 64 { 128 - a } else { a };
-    if a < 32 { FIRST_COLUMN[a] } else { -FIRST_COLUMN[64 - a] }
+    if a < 32 {
+        FIRST_COLUMN[a]
+    } else {
+        -FIRST_COLUMN[64 - a]
+    }
 }
 
 /// The coefficients of residuals 2^log2_w wide and 2^log2_h high.
@@ -45,7 +51,8 @@ pub fn whole(lambda: f64) -> i128 {
     (lambda * 32768.0 + 0.5) as i128
 }
 
-/// The places of a block in scan order: diagonals from the top left, the even ones from left to right, the odd ones from right to left.
+/// The places of a block in scan order: diagonals from the top left, the even ones from left to right, the odd ones
+/// from right to left.
 pub fn scan(side: usize) -> Vec<usize> {
     let mut places = Vec::new();
     for d in 0..2 * side - 1 {
@@ -169,7 +176,8 @@ impl Block<'_> {
         self.square(self.coefficients[place], a) + whole(self.lambda) * self.rate(after_zero, a)
     }
 
-    /// The levels: the walk, cut where its price is least, the earliest of equals; all 0 where that or the skip is cheaper.
+    /// The levels: the walk, cut where its price is least, the earliest of equals; all 0 where that or the skip is
+    /// cheaper.
     pub fn levels(&self) -> Vec<i16> {
         let mut levels = vec![0i16; self.coefficients.len()];
         if self.skipped() {

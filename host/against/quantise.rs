@@ -15,7 +15,8 @@ const ALL: &[usize] = &[0, 1, 2];
 
 pub fn compare(accepted: u64) -> Tally {
     let refusals = [(1, &[0][..]), (2, ALL), (3, ALL), (4, &[0]), (5, &[0]), (6, ALL), (7, ALL), (8, ALL), (9, ALL)];
-    let kinds = [("sides", 5), ("pairs of QP and component", 192), ("pairs of flags", 4), ("of skipped, emptied and coded", 3)];
+    let kinds =
+        [("sides", 5), ("pairs of QP and component", 192), ("pairs of flags", 4), ("of skipped, emptied and coded", 3)];
     let mut tally = Tally::new("quantise", &refusals, &kinds);
     let mut random = Random::new(19_031_928);
     let mut turn = 0;
@@ -32,7 +33,9 @@ pub fn compare(accepted: u64) -> Tally {
 fn one(tally: &mut Tally, call: &Quantise) {
     let mut ours = call.buffer.clone();
     let (slice, coded) = (call.intra_slice, call.intra_coded);
-    let answer = galemosu::quantise(&mut ours, call.log2_side, call.component, call.settings, slice, coded, &call.costs).map_err(fault_of);
+    let answer =
+        galemosu::quantise(&mut ours, call.log2_side, call.component, call.settings, slice, coded, &call.costs)
+            .map_err(fault_of);
     let good = match order::quantise(call) {
         Some(fault) => {
             tally.refused(fault);

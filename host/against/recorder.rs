@@ -1,5 +1,5 @@
-//! What the quantiser is measured with: blocks as a recorder meets them, luma of an intra slice, with such costs as there are after
-//! some blocks.
+//! What the quantiser is measured with: blocks as a recorder meets them, luma of an intra slice, with such costs as
+//! there are after some blocks.
 
 use crate::blocks::Random;
 

@@ -1,5 +1,5 @@
-//! Writes what host/count-x86 quantises to a folder, a file for each side and kind, LOG2-KIND: lambda, QP, the 28 costs, each in eight
-//! bytes, then the blocks of residuals.
+//! Writes what host/count-x86 quantises to a folder, a file for each side and kind, LOG2-KIND: lambda, QP, the 28
+//! costs, each in eight bytes, then the blocks of residuals.
 
 mod blocks;
 mod recorder;
@@ -12,6 +12,7 @@ fn main() {
     for (log2, kind, blocks) in recorder::blocks() {
         let samples = blocks.concat().into_iter().flat_map(i16::to_le_bytes);
         let file = format!("{folder}/{log2}-{}", kind.replace(' ', "-"));
-        std::fs::write(&file, head.iter().copied().chain(samples).collect::<Vec<u8>>()).unwrap_or_else(|why| panic!("{file}: {why}"));
+        let bytes: Vec<u8> = head.iter().copied().chain(samples).collect();
+        std::fs::write(&file, bytes).unwrap_or_else(|why| panic!("{file}: {why}"));
     }
 }

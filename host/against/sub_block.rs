@@ -1,5 +1,6 @@
-//! The three-component call against the Rust and against document 01: counts and levels of an accepted call must be those of both,
-//! prices the document's, what is not run and the surplus untouched; a refused buffer must be left as it was.
+//! The three-component call against the Rust and against document 01: counts and levels of an accepted call must be
+//! those of both, prices the document's, what is not run and the surplus untouched; a refused buffer must be left as it
+//! was.
 
 use crate::blocks::Random;
 use crate::calls::{self, SubBlock};
@@ -11,8 +12,8 @@ use std::panic::catch_unwind;
 
 const ALL: &[usize] = &[0, 1, 2];
 
-/// Refusal 7 of chroma and refusal 9 cannot come: a transformed block of side 16 has rounded magnitudes up to 26,188, and D of one of
-/// side 32 stays below 2^58.
+/// Refusal 7 of chroma and refusal 9 cannot come: a transformed block of side 16 has rounded magnitudes up to 26,188,
+/// and D of one of side 32 stays below 2^58.
 pub fn compare(accepted: u64) -> Tally {
     let refusals = [(1, &[0][..]), (2, ALL), (3, ALL), (4, &[0]), (5, &[0]), (6, ALL), (7, &[0]), (8, ALL)];
     let kinds = [("luma sides", 4), ("run masks", 8), ("pairs of QP and component", 192), ("pairs of flags", 4)];
@@ -33,7 +34,8 @@ pub fn compare(accepted: u64) -> Tally {
 fn one(tally: &mut Tally, call: &SubBlock) {
     let mut ours = call.buffer.clone();
     let (slice, coded) = (call.intra_slice, call.intra_coded);
-    let answer = galemosu::sub_block(&mut ours, call.log2_luma, &call.settings, call.run, slice, coded, &call.costs).map_err(fault_of);
+    let answer = galemosu::sub_block(&mut ours, call.log2_luma, &call.settings, call.run, slice, coded, &call.costs)
+        .map_err(fault_of);
     let good = match order::sub_block(call) {
         Some(fault) => {
             tally.refused(fault);
@@ -61,7 +63,9 @@ fn accepted(tally: &mut Tally, call: &SubBlock, coded: &[Coded; 3], ours: &[i16]
             let coefficients = call.coefficients(k);
             let block = call.block(k, &coefficients);
             let count = left.iter().filter(|c| **c != 0).count();
-            good &= left == block.levels() && coded[k].count as usize == count && coded[k].price as i128 == block.price(left);
+            good &= left == block.levels()
+                && coded[k].count as usize == count
+                && coded[k].price as i128 == block.price(left);
             overflows |= block.widest_rate() > i32::MAX as i128;
         }
     }
@@ -84,7 +88,8 @@ fn theirs(call: &SubBlock) -> Option<([u16; 3], [Vec<i16>; 3])> {
     let (qps, lambdas) = (call.settings.map(|s| s.qp as u8), call.settings.map(|s| s.lambda));
     catch_unwind(move || {
         let (coded, slice) = (call.intra_coded, call.intra_slice);
-        let counts = oracle::sub_block(&mut y, &mut u, &mut v, side, side, qps, lambdas, coded, slice, call.run as u8, &costs);
+        let counts =
+            oracle::sub_block(&mut y, &mut u, &mut v, side, side, qps, lambdas, coded, slice, call.run as u8, &costs);
         (counts, [y, u, v])
     })
     .ok()

@@ -1,5 +1,5 @@
-//! What a comparison has seen: what differed, and how often each refusal and each kind of accepted call has come. What never came
-//! counts against the comparison as a difference does.
+//! What a comparison has seen: what differed, and how often each refusal and each kind of accepted call has come. What
+//! never came counts against the comparison as a difference does.
 
 use crate::order::Fault;
 use std::collections::BTreeMap;
@@ -20,10 +20,11 @@ pub struct Tally {
 }
 
 impl Tally {
-    /// A tally of a call that must meet each of these refusals, of each of the components, and so many kinds of accepted calls of each
-    /// name.
+    /// A tally of a call that must meet each of these refusals, of each of the components, and so many kinds of
+    /// accepted calls of each name.
     pub fn new(name: &'static str, refusals: &[(u32, &[usize])], kinds: &[(&'static str, usize)]) -> Tally {
-        let refusals = refusals.iter().flat_map(|(number, components)| components.iter().map(|k| ((*number, *k), 0))).collect();
+        let refusals =
+            refusals.iter().flat_map(|(number, components)| components.iter().map(|k| ((*number, *k), 0))).collect();
         let kinds = kinds.iter().map(|(kind, values)| (*kind, vec![0; *values])).collect();
         Tally { name, beside: "through both", both: 0, beyond: 0, refused: 0, different: 0, refusals, kinds }
     }
@@ -56,13 +57,21 @@ impl Tally {
 
     /// Prints what came; whether nothing differed and nothing is missing.
     pub fn report(&self) -> bool {
-        let beyond = if self.beyond == 0 { String::new() } else { format!(" ({} more are past the Rust's 32-bit rate)", self.beyond) };
-        println!("{}: {} accepted {}{beyond}, {} refused, {} different", self.name, self.both, self.beside, self.refused, self.different);
+        let beyond = if self.beyond == 0 {
+            String::new()
+        } else {
+            format!(" ({} more are past the Rust's 32-bit rate)", self.beyond)
+        };
+        println!(
+            "{}: {} accepted {}{beyond}, {} refused, {} different",
+            self.name, self.both, self.beside, self.refused, self.different
+        );
         let mut numbers: BTreeMap<u32, Vec<String>> = BTreeMap::new();
         for ((number, component), times) in &self.refusals {
             numbers.entry(*number).or_default().push(format!("{} {times}", ["Y", "U", "V"][*component]));
         }
-        let numbers: Vec<String> = numbers.iter().map(|(number, times)| format!("{number}: {}", times.join(" "))).collect();
+        let numbers: Vec<String> =
+            numbers.iter().map(|(number, times)| format!("{number}: {}", times.join(" "))).collect();
         println!("    refusals by number and component (Y where it belongs to none): {}", numbers.join("; "));
         let kinds: Vec<String> = self
             .kinds

@@ -1,5 +1,5 @@
-//! The transform against the Rust and against document 01: an accepted block must give both their coefficients and leave the surplus
-//! alone, a refused one must be left as it was.
+//! The transform against the Rust and against document 01: an accepted block must give both their coefficients and
+//! leave the surplus alone, a refused one must be left as it was.
 
 use crate::blocks::Random;
 use crate::calls::{self, Transform};

@@ -25,8 +25,10 @@ static int all_written(const void *from, size_t n)
     return 1;
 }
 
-typedef uint32_t quantise(int16_t *, size_t, size_t, uint32_t, double, uint32_t, uint32_t, const uint64_t *, uint64_t *);
-typedef uint32_t sub_block(int16_t *, size_t, size_t, const uint32_t *, const double *, uint32_t, uint32_t, uint32_t, const uint64_t *, uint64_t *);
+typedef uint32_t quantise(int16_t *, size_t, size_t, uint32_t, double, uint32_t, uint32_t, const uint64_t *,
+    uint64_t *);
+typedef uint32_t sub_block(int16_t *, size_t, size_t, const uint32_t *, const double *, uint32_t, uint32_t, uint32_t,
+    const uint64_t *, uint64_t *);
 
 static uint32_t quantised(quantise *call, struct call *c, int16_t *buffer)
 {
@@ -35,7 +37,8 @@ static uint32_t quantised(quantise *call, struct call *c, int16_t *buffer)
 
 static uint32_t three(sub_block *call, struct call *c, int16_t *buffer)
 {
-    return call(buffer, c->len, c->log2_a, c->qp, c->lambda, c->run, c->intra_slice, c->intra_coded, c->costs, c->answer);
+    return call(buffer, c->len, c->log2_a, c->qp, c->lambda, c->run, c->intra_slice, c->intra_coded, c->costs,
+        c->answer);
 }
 
 static uint32_t made(struct call *c, int16_t *buffer)

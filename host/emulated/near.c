@@ -1,5 +1,5 @@
-/* The calls of galemosu.h for a host on this processor: each is sent to far.c, which has rt's archive for x86-64 and is run under
- * emulation, and what it left comes back. RUNNER and PROGRAM are given when this is compiled. */
+/* The calls of galemosu.h for a host on this processor: each is sent to far.c, which has rt's archive for x86-64 and
+ * is run under emulation, and what it left comes back. RUNNER and PROGRAM are given when this is compiled. */
 #include "call.h"
 #include <pthread.h>
 #include <stdio.h>
@@ -72,16 +72,16 @@ uint32_t galemosu_transform(int16_t *block, size_t len, size_t log2_w, size_t lo
     return relayed(&c, block);
 }
 
-#define QUANTISE(name, component)                                                                                                    \
-    uint32_t name(int16_t *block, size_t len, size_t log2_side, uint32_t qp, double lambda, uint32_t intra_slice,                    \
-        uint32_t intra_coded, const uint64_t costs[28], uint64_t answer[3])                                                          \
-    {                                                                                                                                \
-        struct call c = {.what = component, .len = len, .log2_a = log2_side, .qp = {qp}, .lambda = {lambda},                         \
-            .intra_slice = intra_slice, .intra_coded = intra_coded};                                                                 \
-        memcpy(c.costs, costs, sizeof c.costs);                                                                                      \
-        relayed(&c, block);                                                                                                          \
-        memcpy(answer, c.answer, 3 * sizeof *answer);                                                                                \
-        return c.result;                                                                                                             \
+#define QUANTISE(name, component)                                                                                \
+    uint32_t name(int16_t *block, size_t len, size_t log2_side, uint32_t qp, double lambda,                      \
+        uint32_t intra_slice, uint32_t intra_coded, const uint64_t costs[28], uint64_t answer[3])                \
+    {                                                                                                            \
+        struct call c = {.what = component, .len = len, .log2_a = log2_side, .qp = {qp}, .lambda = {lambda},     \
+            .intra_slice = intra_slice, .intra_coded = intra_coded};                                             \
+        memcpy(c.costs, costs, sizeof c.costs);                                                                  \
+        relayed(&c, block);                                                                                      \
+        memcpy(answer, c.answer, 3 * sizeof *answer);                                                            \
+        return c.result;                                                                                         \
     }
 QUANTISE(galemosu_quantise_y, QUANTISE_Y)
 QUANTISE(galemosu_quantise_u, QUANTISE_U)
@@ -90,16 +90,17 @@ QUANTISE(galemosu_quantise_least_y, QUANTISE_LEAST_Y)
 QUANTISE(galemosu_quantise_least_u, QUANTISE_LEAST_U)
 QUANTISE(galemosu_quantise_least_v, QUANTISE_LEAST_V)
 
-#define THREE(name, mode)                                                                                                            \
-    uint32_t name(int16_t *buffer, size_t len, size_t log2_luma, const uint32_t qp[3], const double lambda[3], uint32_t run,         \
-        uint32_t intra_slice, uint32_t intra_coded, const uint64_t costs[28], uint64_t answer[7])                                    \
-    {                                                                                                                                \
-        struct call c = {.what = mode, .len = len, .log2_a = log2_luma, .run = run, .intra_slice = intra_slice,                      \
-            .intra_coded = intra_coded};                                                                                             \
-        memcpy(c.qp, qp, sizeof c.qp), memcpy(c.lambda, lambda, sizeof c.lambda), memcpy(c.costs, costs, sizeof c.costs);            \
-        relayed(&c, buffer);                                                                                                         \
-        memcpy(answer, c.answer, sizeof c.answer);                                                                                   \
-        return c.result;                                                                                                             \
+#define THREE(name, mode)                                                                                        \
+    uint32_t name(int16_t *buffer, size_t len, size_t log2_luma, const uint32_t qp[3], const double lambda[3],   \
+        uint32_t run, uint32_t intra_slice, uint32_t intra_coded, const uint64_t costs[28], uint64_t answer[7])  \
+    {                                                                                                            \
+        struct call c = {.what = mode, .len = len, .log2_a = log2_luma, .run = run, .intra_slice = intra_slice,  \
+            .intra_coded = intra_coded};                                                                         \
+        memcpy(c.qp, qp, sizeof c.qp), memcpy(c.lambda, lambda, sizeof c.lambda);                                \
+        memcpy(c.costs, costs, sizeof c.costs);                                                                 \
+        relayed(&c, buffer);                                                                                     \
+        memcpy(answer, c.answer, sizeof c.answer);                                                               \
+        return c.result;                                                                                         \
     }
 THREE(galemosu_sub_block, SUB_BLOCK)
 THREE(galemosu_sub_block_least, SUB_BLOCK_LEAST)

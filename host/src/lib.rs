@@ -62,9 +62,9 @@ pub struct Settings {
     pub lambda: f64,
 }
 
-/// The cost tables: pair k of a table stands at 2k and 2k+1. The run and level pairs are rows 0 to 3 of the source's, the
-/// cbf pairs those of all, luma, cb and cr. A signed entry of the source, `as u64`, keeps its meaning: a negative one is
-/// refused with `Cost`.
+/// The cost tables: pair k of a table stands at 2k and 2k+1. The run and level pairs are rows 0 to 3 of the source's,
+/// the cbf pairs those of all, luma, cb and cr. A signed entry of the source, `as u64`, keeps its meaning: a negative
+/// one is refused with `Cost`.
 #[derive(Clone, Copy, Debug, PartialEq, Eq)]
 #[repr(C)]
 pub struct Costs {
@@ -90,18 +90,8 @@ pub struct Coded {
 }
 
 type Quantise = unsafe extern "C" fn(*mut i16, usize, usize, u32, f64, u32, u32, *const u64, *mut u64) -> u32;
-type SubBlock = unsafe extern "C" fn(
-    *mut i16,
-    usize,
-    usize,
-    *const u32,
-    *const f64,
-    u32,
-    u32,
-    u32,
-    *const u64,
-    *mut u64,
-) -> u32;
+type SubBlock =
+    unsafe extern "C" fn(*mut i16, usize, usize, *const u32, *const f64, u32, u32, u32, *const u64, *mut u64) -> u32;
 
 /// The calls of `include/galemosu.h`, with a slice as a pointer and a length.
 macro_rules! calls {
@@ -153,10 +143,11 @@ fn refused(refusal: Refusal, component: u64) -> Refused {
     Refused { refusal, component }
 }
 
-/// The forward transform, in place, of the block of residuals at the front of `block`: 2^log2_w wide, 2^log2_h high, by rows.
+/// The forward transform, in place, of the block of residuals at the front of `block`: 2^log2_w wide, 2^log2_h high, by
+/// rows.
 ///
-/// The coefficients take the residuals' place; what lies behind the block is neither read nor changed. Refusals, in this order:
-/// `Side` for a log2 side outside 1..5, `Length` for a short buffer, `Sample` for a residual outside ±1023.
+/// The coefficients take the residuals' place; what lies behind the block is neither read nor changed. Refusals, in
+/// this order: `Side` for a log2 side outside 1..5, `Length` for a short buffer, `Sample` for a residual outside ±1023.
 pub fn transform(block: &mut [i16], log2_w: usize, log2_h: usize) -> Result<(), Refusal> {
     // SAFETY: the pointer and the length are those of one lent slice; a slice's pointer is not null and is aligned.
     let number = unsafe { galemosu_transform(block.as_mut_ptr(), block.len(), log2_w, log2_h) };
@@ -168,8 +159,9 @@ pub fn transform(block: &mut [i16], log2_w: usize, log2_h: usize) -> Result<(), 
 
 /// Quantises, in place, the square block of coefficients at the front of `block`, of side 2^log2_side.
 ///
-/// The levels take the coefficients' place; what lies behind the block is neither read nor changed. All nine refusals can come, in
-/// the order of their numbers; `Level`, `Price` and `Distortion` only for a block that the quick skip does not clear.
+/// The levels take the coefficients' place; what lies behind the block is neither read nor changed. All nine refusals
+/// can come, in the order of their numbers; `Level`, `Price` and `Distortion` only for a block that the quick skip does
+/// not clear.
 pub fn quantise(
     block: &mut [i16],
     log2_side: usize,
@@ -187,10 +179,12 @@ pub fn quantise(
     quantise_by(call, block, log2_side, settings, intra_slice, intra_coded, costs)
 }
 
-/// Quantises as `quantise` does, to the cheapest block of all: of the blocks whose magnitudes are each 0, the rounded magnitude or, if that
-/// is 2 or more, one less, the one of least price; at equal price the one whose magnitudes come first in dictionary order, in scan order.
+/// Quantises as `quantise` does, to the cheapest block of all: of the blocks whose magnitudes are each 0, the rounded
+/// magnitude or, if that is 2 or more, one less, the one of least price; at equal price the one whose magnitudes come
+/// first in dictionary order, in scan order.
 ///
-/// It is never dearer than the block of `quantise`. A block that the quick skip clears is cleared here too, and refusals are the same.
+/// It is never dearer than the block of `quantise`. A block that the quick skip clears is cleared here too, and
+/// refusals are the same.
 pub fn quantise_least(
     block: &mut [i16],
     log2_side: usize,
@@ -218,9 +212,20 @@ fn quantise_by(
     costs: &Costs,
 ) -> Result<Coded, Refused> {
     let mut answer = [0u64; 3];
-    // SAFETY: the block is one lent slice; the arrays have the lengths that the calls read and write, and outlive the call.
+    // SAFETY: the block is one lent slice; the arrays have the lengths that the calls read and write, and outlive the
+    // call.
     let number = unsafe {
-        call(block.as_mut_ptr(), block.len(), log2_side, settings.qp, settings.lambda, intra_slice as u32, intra_coded as u32, costs.entries(), answer.as_mut_ptr())
+        call(
+            block.as_mut_ptr(),
+            block.len(),
+            log2_side,
+            settings.qp,
+            settings.lambda,
+            intra_slice as u32,
+            intra_coded as u32,
+            costs.entries(),
+            answer.as_mut_ptr(),
+        )
     };
     match Refusal::of(number) {
         None => Ok(Coded { count: answer[1] as u32, price: answer[2] }),
@@ -228,10 +233,11 @@ fn quantise_by(
     }
 }
 
-/// Transforms and quantises the three components that stand in `buffer`: Y of side 2^log2_luma, then U and V of half that side.
+/// Transforms and quantises the three components that stand in `buffer`: Y of side 2^log2_luma, then U and V of half
+/// that side.
 ///
-/// Bits 0, 1 and 2 of `run` are for Y, U and V. A component that is not run keeps its residuals and answers 0 and 0. Nothing is written
-/// until every test of every component has passed.
+/// Bits 0, 1 and 2 of `run` are for Y, U and V. A component that is not run keeps its residuals and answers 0 and 0.
+/// Nothing is written until every test of every component has passed.
 pub fn sub_block(
     buffer: &mut [i16],
     log2_luma: usize,
@@ -244,7 +250,8 @@ pub fn sub_block(
     sub_block_by(galemosu_sub_block, buffer, log2_luma, settings, run, intra_slice, intra_coded, costs)
 }
 
-/// Transforms and quantises as `sub_block` does, each component that is run to its cheapest block of all (`quantise_least`).
+/// Transforms and quantises as `sub_block` does, each component that is run to its cheapest block of all
+/// (`quantise_least`).
 pub fn sub_block_least(
     buffer: &mut [i16],
     log2_luma: usize,
@@ -270,9 +277,21 @@ fn sub_block_by(
 ) -> Result<[Coded; 3], Refused> {
     let (qp, lambda) = (settings.map(|s| s.qp), settings.map(|s| s.lambda));
     let mut answer = [0u64; 7];
-    // SAFETY: the buffer is one lent slice; the arrays have the lengths that the calls read and write, and outlive the call.
+    // SAFETY: the buffer is one lent slice; the arrays have the lengths that the calls read and write, and outlive the
+    // call.
     let number = unsafe {
-        call(buffer.as_mut_ptr(), buffer.len(), log2_luma, qp.as_ptr(), lambda.as_ptr(), run, intra_slice as u32, intra_coded as u32, costs.entries(), answer.as_mut_ptr())
+        call(
+            buffer.as_mut_ptr(),
+            buffer.len(),
+            log2_luma,
+            qp.as_ptr(),
+            lambda.as_ptr(),
+            run,
+            intra_slice as u32,
+            intra_coded as u32,
+            costs.entries(),
+            answer.as_mut_ptr(),
+        )
     };
     match Refusal::of(number) {
         None => Ok([0, 1, 2].map(|k| Coded { count: answer[1 + k] as u32, price: answer[4 + k] })),
@@ -368,7 +387,8 @@ mod tests {
         assert_eq!(block, held);
     }
 
-    /// All entries 0 but the price of a level of 1 and, in units of what a square costs at QP 4 and lambda 1/1024, the run's four.
+    /// All entries 0 but the price of a level of 1 and, in units of what a square costs at QP 4 and lambda 1/1024, the
+    /// run's four.
     fn runs(level: u64, run: [u64; 4]) -> Costs {
         let mut costs = Costs { run: [0; 8], level: [0; 8], last: [0; 4], cbf: [0; 8] };
         for row in [0, 4] {
@@ -463,18 +483,21 @@ mod tests {
     #[test]
     fn three_components_are_the_transform_and_the_quantiser_alone() {
         let held: Vec<i16> = (0..30).map(|i| (i * 37 % 200 - 100) as i16).collect();
-        let settings = [Settings { qp: 20, lambda: 0.25 }, Settings { qp: 12, lambda: 0.5 }, Settings { qp: 30, lambda: 0.0 }];
+        let settings =
+            [Settings { qp: 20, lambda: 0.25 }, Settings { qp: 12, lambda: 0.5 }, Settings { qp: 30, lambda: 0.0 }];
         alone_is_the_same(sub_block, quantise, &held, &settings, &FLAT);
     }
 
     #[test]
     fn three_components_in_the_second_mode_are_that_quantiser_alone() {
         let held: Vec<i16> = (0..30).map(|i| (i * 37 % 200 - 100) as i16).collect();
-        let settings = [Settings { qp: 16, lambda: 4.0 }, Settings { qp: 22, lambda: 4.0 }, Settings { qp: 28, lambda: 1.0 }];
+        let settings =
+            [Settings { qp: 16, lambda: 4.0 }, Settings { qp: 22, lambda: 4.0 }, Settings { qp: 28, lambda: 1.0 }];
         let costs = runs(60, [0, 0, 120, 50]);
         alone_is_the_same(sub_block_least, quantise_least, &held, &settings, &costs);
         // and not the walk's, in any component
-        let [walked, least] = [sub_block, sub_block_least].map(|call| call(&mut held.clone(), 2, &settings, 7, false, true, &costs).unwrap());
+        let [walked, least] = [sub_block, sub_block_least]
+            .map(|call| call(&mut held.clone(), 2, &settings, 7, false, true, &costs).unwrap());
         assert!((0..3).all(|k| least[k].price < walked[k].price), "{walked:?} {least:?}");
     }
 
@@ -486,7 +509,9 @@ mod tests {
             let mut buffer = held.to_vec();
             let coded = three(&mut buffer, 2, settings, run, false, true, costs).unwrap();
             let mut alone = held.to_vec();
-            for (k, (component, start, side)) in [(Component::Y, 0, 2), (Component::U, 16, 1), (Component::V, 20, 1)].into_iter().enumerate() {
+            for (k, (component, start, side)) in
+                [(Component::Y, 0, 2), (Component::U, 16, 1), (Component::V, 20, 1)].into_iter().enumerate()
+            {
                 let mut expected = Coded { count: 0, price: 0 };
                 if run >> k & 1 == 1 {
                     let part = &mut alone[start..start + (1 << (2 * side))];

@@ -1,9 +1,9 @@
 //! What a viewer can see of a stroke, in samples: the figures of docs/ANSWER.md, each looked for in that page.
 //!
-//! A block is coded by the library and decoded by the formulas of document 02's ticket 6, worked out here: scaling back,
-//! then the double sum with the matrix of document 01's rule, rounded once. All is luma of an intra-coded block in an intra
-//! slice, every cost entry 32768. What is shown is the guess plus what was decoded, so that the error of a sample is the
-//! decoded residual less the true one: below 0 it is darker than the camera saw it.
+//! A block is coded by the library and decoded by the formulas of document 02's ticket 6, worked out here: scaling
+//! back, then the double sum with the matrix of document 01's rule, rounded once. All is luma of an intra-coded block
+//! in an intra slice, every cost entry 32768. What is shown is the guess plus what was decoded, so that the error of a
+//! sample is the decoded residual less the true one: below 0 it is darker than the camera saw it.
 //!
 //!     cargo test --test strokes -- --nocapture     prints the tables
 
@@ -86,8 +86,8 @@ fn on_the_page(line: &str) {
 
 // ---- a stroke that the guess has
 
-/// The deepest bar that is left whole: two samples wide and half a block high, in the middle of an 8×8 block of the guess,
-/// where the camera sees paper. The correction is a residual of as much on the bar, and the block is emptied.
+/// The deepest bar that is left whole: two samples wide and half a block high, in the middle of an 8×8 block of the
+/// guess, where the camera sees paper. The correction is a residual of as much on the bar, and the block is emptied.
 fn deepest_bar(call: Quantiser, qp: u32, lambda: f64) -> i16 {
     let is_bar = |i: i16| (2..6).contains(&(i / 8)) && (3..5).contains(&(i % 8));
     let emptied = |depth: &i16| {
@@ -158,9 +158,8 @@ impl Random {
 /// A digit of seven bars, some 15 samples wide and 24 high, in an area of 32×32: where its ink is.
 fn digit(random: &mut Random) -> Vec<bool> {
     // top, upper left, upper right, middle, lower left, lower right, bottom, of 0 to 9
-    const BARS: [u8; 10] = [
-        0b1110111, 0b0010010, 0b1011101, 0b1011011, 0b0111010, 0b1101011, 0b1101111, 0b1010010, 0b1111111, 0b1111011,
-    ];
+    const BARS: [u8; 10] =
+        [0b1110111, 0b0010010, 0b1011101, 0b1011011, 0b0111010, 0b1101011, 0b1101111, 0b1010010, 0b1111111, 0b1111011];
     let bars = BARS[random.between(0, 9) as usize];
     let (width, x, y) = (random.between(2, 4), random.between(4, 12), random.between(2, 6));
     let (right, middle, bottom) = (x + random.between(11, 15), y + random.between(9, 13), y + random.between(20, 25));
@@ -193,8 +192,8 @@ fn a_block(random: &mut Random, log2: usize) -> (Vec<i16>, i64, Vec<bool>) {
     (places.iter().map(residual).collect(), contrast, paper)
 }
 
-/// How much the darkest point of paper darkens, in percent of the contrast: the mean and the most of 1,000 blocks; and the
-/// largest error of any sample.
+/// How much the darkest point of paper darkens, in percent of the contrast: the mean and the most of 1,000 blocks; and
+/// the largest error of any sample.
 fn digits(log2: usize, qp: u32) -> (f64, f64, i64) {
     let (mut random, mut dark, mut error) = (Random(20_261_115), vec![], 0);
     for _ in 0..1000 {

@@ -1,5 +1,5 @@
-"""The requests of the recorded test, crates/tq/stdin: those made by hand (by_hand.py), those drawn by chance (by_chance.py), and a last line,
-behind which there is no newline. All are written with lines.py."""
+"""The requests of the recorded test, crates/tq/stdin: those made by hand (by_hand.py), those drawn by chance
+(by_chance.py), and a last line, behind which there is no newline. All are written with lines.py."""
 from vectors import by_chance, by_hand
 
 BY_CHANCE = "by chance"

@@ -102,7 +102,8 @@ def halves(r, side, unit):
 
 
 def about_the_threshold(r, side, unit):
-    return [r.of((1, -1)) * (int(unit * r.of((311, 359)) / 512) + r.between(-1, 1)) if r.once_in(side) else r.between(-2, 2) for _ in range(side * side)]
+    return [r.of((1, -1)) * (int(unit * r.of((311, 359)) / 512) + r.between(-1, 1)) if r.once_in(side)
+            else r.between(-2, 2) for _ in range(side * side)]
 
 
 def small_ones(r, side, unit):
@@ -163,7 +164,8 @@ LAMBDAS = [
 
 
 def surplus(r):
-    return [r.of((-32768, 32767, 1024, 0, r.between(-32768, 32767))) for _ in range(r.between(1, 6))] if r.once_in(6) else []
+    return [r.of((-32768, 32767, 1024, 0, r.between(-32768, 32767)))
+            for _ in range(r.between(1, 6))] if r.once_in(6) else []
 
 
 def flag(r):
@@ -191,7 +193,8 @@ def a_quantise(r, turn, log2):
         qp = min(qp // 6 * 6 + 4, 58)
     table, d = r.of(COSTS)(r), r.of(LAMBDAS)(r, qp)
     block = [max(-32767, min(32767, c)) for c in kind(r, 1 << log2, step(log2, qp))] + surplus(r)
-    given = {"log2": log2, "component": component, "qp": qp, "d": d, "intra_slice": flag(r), "intra_coded": flag(r), "costs": table}
+    given = {"log2": log2, "component": component, "qp": qp, "d": d, "intra_slice": flag(r), "intra_coded": flag(r),
+             "costs": table}
     if r.once_in(8):
         spoil(r, r.of((3, 4, 5, 6, 6)), given, block, n)
         if r.once_in(2):
@@ -258,17 +261,20 @@ def late(r):
         yield quantise(block, 3, component=turn % 3, qp=turn % 4, d=8192.0 - turn * 300, costs=usual_costs(r))
     for turn in range(6):
         far = r.between(15800, 16900)
-        yield quantise([r.of((far, -far)) for _ in range(256)], 4, component=turn % 3, qp=turn * 9, d=0.25, costs=usual_costs(r))
+        yield quantise([r.of((far, -far)) for _ in range(256)], 4, component=turn % 3, qp=turn * 9, d=0.25,
+                       costs=usual_costs(r))
     for turn in range(6):
         y, u, v = text(r, 16, 16), r.of((level, ramp))(r, 8, 8), [r.of((1023, -1023))] * 64
         yield subblock(y + u + v, 4, 7, (22, 0, turn % 4), (1.0, 2.0, 8192.0 - turn * 1000), costs=usual_costs(r))
     for turn in range(2):
-        yield subblock(limits(r, 32, 32)[:8] + [1023] * 1016 + ramp(r, 16, 16) + small(r, 16, 16), 5, 7, (turn * 4, 30, 30), (1.0, 60.0, 60.0), costs=usual_costs(r))
+        yield subblock(limits(r, 32, 32)[:8] + [1023] * 1016 + ramp(r, 16, 16) + small(r, 16, 16), 5, 7,
+                       (turn * 4, 30, 30), (1.0, 60.0, 60.0), costs=usual_costs(r))
 
 
 def even_cuts(r, count):
-    """A coefficient that is worth coding by exactly what its level and a flag cost, or by one unit of rate more or less: as the second level of
-    a block the earlier cut wins at equal price, as the only one the empty block. Step and lambda are powers of two."""
+    """A coefficient that is worth coding by exactly what its level and a flag cost, or by one unit of rate more or
+    less: as the second level of a block the earlier cut wins at equal price, as the only one the empty block. Step and
+    lambda are powers of two."""
     for turn in range(count):
         component, log2, qp, alone = turn % 3, r.between(1, 2), 6 * r.between(1, 4) + 4, r.once_in(2)
         whole, row = int(step(log2, qp)), 0 if component == 0 else 2
@@ -280,23 +286,26 @@ def even_cuts(r, count):
         rest = saved // lambda_ - 32768
         run_0, level_0 = r.between(1, rest // 3), r.between(1, rest // 3)
         table = [r.below(3000)] * 28
-        # with cbf 0 to choose from, run and level as they are, the flag takes the rest: last[.][1] alone, last[.][0] behind another level
+        # with cbf 0 to choose from, run and level as they are, the flag takes the rest: last[.][1] alone, last[.][0]
+        # behind another level
         table[20:] = [0] * 8
-        table[2 * row], table[8 + 2 * row], table[16 + row + alone] = run_0, level_0, rest - run_0 - level_0 + r.of((0, 0, -1, 1))
+        table[2 * row], table[8 + 2 * row], table[16 + row + alone] = run_0, level_0, rest - run_0 - level_0 + r.of(
+            (0, 0, -1, 1))
         block = [0] * (1 << 2 * log2)
         block[0], block[1] = (whole // 2 + over, 0) if alone else (4 * whole, whole // 2 + over)
         yield quantise(block, log2, component, qp, lambda_ / 32768, costs=table)
 
 
 def tied(r, count):
-    """Steps, lambdas and costs that are powers of two, coefficients of quarters of a step, and costs of a few times what the square of a quarter
-    costs: most blocks are not the only ones of least price."""
+    """Steps, lambdas and costs that are powers of two, coefficients of quarters of a step, and costs of a few times
+    what the square of a quarter costs: most blocks are not the only ones of least price."""
     for turn in range(count):
         log2, k = r.of((1, 1, 1, 1, 2, 2, 2, 3, 3, 4)), r.between(2, 5)
         quarter = 1 << (3 - log2 + k)
         block = [r.of((1, -1)) * quarter * r.of((0, 0, 1, 2, 3, 3, 4, 5, 6, 6, 7, 10)) for _ in range(1 << 2 * log2)]
         table = [8192 * r.below(r.of((3, 6, 9))) for _ in range(28)]
-        yield quantise(block + surplus(r), log2, turn % 3, 6 * k + 4, r.of((2.0 ** (2 * k - 6), 2.0 ** (2 * k - 6), 0.0)), flag(r), flag(r), table)
+        yield quantise(block + surplus(r), log2, turn % 3, 6 * k + 4,
+                       r.of((2.0 ** (2 * k - 6), 2.0 ** (2 * k - 6), 0.0)), flag(r), flag(r), table)
 
 
 def second_mode(r):

@@ -38,16 +38,19 @@ def the_papers_numbers():
 
 # how the answers to these begin, by document 01's own words
 STATED = [
-    b"accepted : 80 -16 -32 0", b"accepted : 32736 0 0", b"accepted : -32736 0 0", b"accepted : 8 11 8 4 11 14 11 6 8 11 8 4 4 6 4 2",
-    b"accepted : -8 -10 -8 -4 -10 -14 -10 -6 -8 -10 -8 -4 -4 -6 -4 -2", b"accepted 1 22282240 : 1 0 0 0", b"accepted 1 22020096 : -1 0 0 0",
-    b"accepted 1 16777216 : 1 0 0 0", b"accepted 0 42991616 : 0 0 0 0", b"accepted 0 0 : 0 0 0 0", b"accepted 1 ", b"accepted 0 0 : 0 0 0 0",
+    b"accepted : 80 -16 -32 0", b"accepted : 32736 0 0", b"accepted : -32736 0 0",
+    b"accepted : 8 11 8 4 11 14 11 6 8 11 8 4 4 6 4 2",
+    b"accepted : -8 -10 -8 -4 -10 -14 -10 -6 -8 -10 -8 -4 -4 -6 -4 -2", b"accepted 1 22282240 : 1 0 0 0",
+    b"accepted 1 22020096 : -1 0 0 0",
+    b"accepted 1 16777216 : 1 0 0 0", b"accepted 0 42991616 : 0 0 0 0", b"accepted 0 0 : 0 0 0 0", b"accepted 1 ",
+    b"accepted 0 0 : 0 0 0 0",
     b"accepted 1 ", b"accepted ", b"refused 7 0 :", b"accepted ", b"refused 8 0 :", b"accepted ", b"refused 9 0 :",
 ]
 
 
 def run_only():
-    """Numbers that the paper asks to be run. Whether lambda is 0 or 1 shows in the price. The f64 before the largest below
-    1/2 is still lambda 0."""
+    """Numbers that the paper asks to be run. Whether lambda is 0 or 1 shows in the price. The f64 before the largest
+    below 1/2 is still lambda 0."""
     for x in (0.0, math.nextafter(BELOW_HALF, 0), BELOW_HALF, 0.5 / 32768, 1 / 32768):
         yield quantise([18, 9, 0, 0], qp=5, d=x)
     for r in (1023, 1024, -1023, -1024):
@@ -65,8 +68,9 @@ def run_only():
 
 
 def exact_halves():
-    """From side 8 on a row of the matrix begins 89 75. Two odd residuals, in column 0 of rows 0 and 1, for which that adds up to half a unit: with
-    every odd entry of column 0 the coefficient lies between two. Halves go upward, and nothing may be lost on the way."""
+    """From side 8 on a row of the matrix begins 89 75. Two odd residuals, in column 0 of rows 0 and 1, for which that
+    adds up to half a unit: with every odd entry of column 0 the coefficient lies between two. Halves go upward, and
+    nothing may be lost on the way."""
     for lw, lh in ((5, 5), (4, 5), (5, 4), (1, 5), (5, 3), (3, 3), (4, 4)):
         half = 1 << (6 + lw + lh)
         pairs = [(a, (half - 89 * a) // 75) for a in range(-1023, 1024, 2) if (half - 89 * a) % 75 == 0]
@@ -93,17 +97,21 @@ def sides():
 
 
 def lambdas():
-    """0, -0.0, the two denormals next to it, 8192 and its neighbours, infinities, NaNs quiet and signalling of both signs; halves of a
-    step, where lambda is rounded up."""
-    patterns = [bits(d) for d in (0.0, -0.0, 5e-324, -5e-324, -1.0, -8192.0, 1.0, math.nextafter(8192, 0), 8192.0, math.nextafter(8192, 9000), 8193.0, 1e300, -1e300)]
-    patterns += ["7ff0000000000000", "fff0000000000000", "7fefffffffffffff", "ffefffffffffffff", "0010000000000000", "8010000000000000"]
-    patterns += [NAN, "fff8000000000000", "7ff0000000000001", "fff0000000000001", "7ff4000000000000", "7fffffffffffffff", "ffffffffffffffff", "7ffc0ffee0ddf00d"]
+    """0, -0.0, the two denormals next to it, 8192 and its neighbours, infinities, NaNs quiet and signalling of both
+    signs; halves of a step, where lambda is rounded up."""
+    patterns = [bits(d) for d in (0.0, -0.0, 5e-324, -5e-324, -1.0, -8192.0, 1.0, math.nextafter(8192, 0), 8192.0,
+                                  math.nextafter(8192, 9000), 8193.0, 1e300, -1e300)]
+    patterns += ["7ff0000000000000", "fff0000000000000", "7fefffffffffffff", "ffefffffffffffff", "0010000000000000",
+                 "8010000000000000"]
+    patterns += [NAN, "fff8000000000000", "7ff0000000000001", "fff0000000000001", "7ff4000000000000",
+                 "7fffffffffffffff", "ffffffffffffffff", "7ffc0ffee0ddf00d"]
     for k, pattern in enumerate(patterns):
         yield quantise([20, 7, 0, 0], d=pattern, component=k % 3)
         yield quantise([2, 1, 0, 0], d=pattern, component=2)
         for j in range(3):
             yield subblock(PICTURE, d=only(j, pattern, USUAL))
-    for steps in (0.25, 0.5, 0.75, 1.25, 1.5, 2.5, 3.5, math.nextafter(2.5, 0), math.nextafter(2.5, 3), 100.5, 101.5, 2 ** 27 + 0.5):
+    for steps in (0.25, 0.5, 0.75, 1.25, 1.5, 2.5, 3.5, math.nextafter(2.5, 0), math.nextafter(2.5, 3), 100.5, 101.5,
+                  2 ** 27 + 0.5):
         yield quantise([200, -70, 33, 9], d=steps / 32768, costs=MIXED)
     for k in range(29):
         for steps in (math.nextafter(2 ** k - 0.5, 0), 2 ** k - 0.5, math.nextafter(2 ** k, 0), 2.0 ** k):
@@ -119,12 +127,13 @@ def qps():
 
 
 def cost_entries():
-    """Entries whose low 32 bits would pass, and what a host's negative entries become. They are refused also when nothing runs, or nothing
-    that reads them."""
+    """Entries whose low 32 bits would pass, and what a host's negative entries become. They are refused also when
+    nothing runs, or nothing that reads them."""
     for at in range(28):
         for k, e in enumerate((2 ** 32, 2 ** 32 + 32768, 2 ** 63, 2 ** 64 - 1)):
             table = FLAT[:at] + [e] + FLAT[at + 1:]
-            yield quantise([20, 7, 0, 0], component=(at + k) % 3, costs=table) if k % 2 else subblock(PICTURE, run=(at + k) % 8, costs=table)
+            yield quantise([20, 7, 0, 0], component=(at + k) % 3,
+                           costs=table) if k % 2 else subblock(PICTURE, run=(at + k) % 8, costs=table)
         for run in (0, 1, 2, 4):
             yield subblock(PICTURE, run=run, costs=FLAT[:at] + [1048577] + FLAT[at + 1:])
         for k in range(3):
@@ -149,13 +158,15 @@ def lengths():
         for k, buffer in enumerate(([], block[:1], block[:n - 1], block, block + [-32768], block + wild)):
             yield quantise(buffer, log2, component=k % 3)
             yield quantise(buffer[:n] and [c // 100 for c in buffer[:n]] + buffer[n:], log2, component=k % 3)
-    for buffer in ([], PICTURE[:1], PICTURE[:16], PICTURE[:20], PICTURE[:23], PICTURE, PICTURE + [-32768], PICTURE + wild):
+    for buffer in ([], PICTURE[:1], PICTURE[:16], PICTURE[:20], PICTURE[:23], PICTURE, PICTURE + [-32768],
+                   PICTURE + wild):
         for run in (7, 3, 1, 2, 4, 0):
             yield subblock(buffer, run=run)
 
 
 def samples():
-    """At the first and the last place of a component. No block with -32768 is skipped by the definition, but one whose magnitude wraps is."""
+    """At the first and the last place of a component. No block with -32768 is skipped by the definition, but one whose
+    magnitude wraps is."""
     for r in (1023, 1024, -1023, -1024, 32767, -32767, -32768):
         yield transform([r, 0, 0, 0, 1, 1, 1, 1], 2, 1)
         yield transform([0, 0, 0, 0, 1, 1, 1, r], 2, 1)
@@ -171,7 +182,8 @@ def samples():
 
 
 def levels():
-    """m at 32767 and one past, with each sign, in a corner and at the end of the scan, at every QP that can reach it."""
+    """m at 32767 and one past, with each sign, in a corner and at the end of the scan, at every QP that can reach
+    it."""
     for qp, c in ((0, 20479), (1, 23039), (2, 26111), (3, 29182)):
         for more in range(3):
             yield quantise(put(1024, {0: c + more}), 5, qp=qp, component=qp % 3)
@@ -182,7 +194,8 @@ def levels():
 
 def prices():
     """lambda × (M+1) at 2^41, at the nearest products past it, and where d's half step decides."""
-    for k, (step, c) in enumerate(((2 ** 28, 8190), (2 ** 28, 8191), (2 ** 28, -8192), (2 ** 28 - 1, 8192), (2 ** 27, 16383), (2 ** 27 + 1, 16383), (2 ** 27, 16384))):
+    for k, (step, c) in enumerate(((2 ** 28, 8190), (2 ** 28, 8191), (2 ** 28, -8192), (2 ** 28 - 1, 8192),
+                                   (2 ** 27, 16383), (2 ** 27 + 1, 16383), (2 ** 27, 16384))):
         yield quantise(put(1024, {33: c}), 5, component=k % 3, d=step / 32768)
     for steps in (2 ** 26, 2 ** 26 + 0.5 - 2 ** -27, 2 ** 26 + 0.5, 2 ** 26 + 1):
         yield quantise(put(1024, {0: 29183}), 5, qp=3, d=steps / 32768)
@@ -203,13 +216,15 @@ def widest_prices():
     """lambda, magnitudes and entries as large as the limits let them be together; counts of 256 and of 1,024 levels."""
     for d, qp, c in ((8192.0, 4, 8191), (2048.0, 3, 29183), (2048.0, 4, 32767), (4096.0, 10, 32767)):
         for n in (1, 2, 16):
-            for table in (LARGEST, costs(1048576, run_0_0=0, level_0_0=0, level_0_1=0, level_1_0=0, level_1_1=0), costs(0, run_0_1=1048576, run_1_1=1048576)):
+            for table in (LARGEST, costs(1048576, run_0_0=0, level_0_0=0, level_0_1=0, level_1_0=0, level_1_1=0),
+                          costs(0, run_0_1=1048576, run_1_1=1048576)):
                 yield quantise([c, -c] * (n // 2) + [c] * (n % 2) + [0] * (1024 - n), 5, qp=qp, d=d, costs=table)
     for n, c, log2 in ((256, 16384, 4), (1024, 4096, 5), (1024, 4095, 5)):
         for d in (0.0, 1.0, 8192.0 if c < 8192 else 4096.0):
             yield quantise([c if i % 3 else -c for i in range(n)], log2, d=d, costs=LARGEST, component=n % 3)
     # more digits than an f64 has
-    yield quantise([(i * i * 37 + 11 * i) % 16001 - 8000 for i in range(256)], 4, qp=3, d=(2 ** 27 + 1) / 32768, costs=MIXED)
+    yield quantise([(i * i * 37 + 11 * i) % 16001 - 8000 for i in range(256)], 4, qp=3, d=(2 ** 27 + 1) / 32768,
+                   costs=MIXED)
 
 
 def distortions():
@@ -291,13 +306,16 @@ def order_of_three_components():
 
 
 def late_refusals_of_three_components():
-    """Luma 32 reaches 7; 8 needs a side of 8 or more. Y's coded levels must not be in the buffer when U or V is refused."""
+    """Luma 32 reaches 7; 8 needs a side of 8 or more. Y's coded levels must not be in the buffer when U or V is
+    refused."""
     bright, soft = [1023] * 64, [(i % 8) * 9 - 30 for i in range(64)]
     y = [(i % 16) * 5 - (i // 16) * 3 for i in range(256)]
     for parts, d in (
-        ((y, bright, soft), only(1, 8192.0, USUAL)), ((y, soft, bright), only(2, 8192.0, USUAL)), ((y, bright, bright), (USUAL, 8192.0, 8192.0)),
+        ((y, bright, soft), only(1, 8192.0, USUAL)), ((y, soft, bright), only(2, 8192.0, USUAL)),
+        ((y, bright, bright), (USUAL, 8192.0, 8192.0)),
         (([1023] * 256, bright, soft), (8192.0, 8192.0, USUAL)), (([-1023] * 256, soft, soft), only(0, 8192.0, USUAL)),
-        ((y, bright, soft[:63] + [1024]), only(1, 8192.0, USUAL)), (([1023] * 256, soft, soft[:63] + [1024]), only(0, 8192.0, USUAL)),
+        ((y, bright, soft[:63] + [1024]), only(1, 8192.0, USUAL)),
+        (([1023] * 256, soft, soft[:63] + [1024]), only(0, 8192.0, USUAL)),
     ):
         for qp in ((0, 0, 0), (34, 1, 3)):
             yield subblock(sum(parts, []), 4, qp=qp, d=d)
@@ -315,14 +333,17 @@ def late_refusals_of_three_components():
 # ---- what runs
 
 def masks():
-    """Only bits 0, 1, 2 mean anything. What is not run keeps its residuals, whatever they are, and its settings are not read."""
-    for run in (0, 1, 2, 3, 4, 5, 6, 7, 8, 9, 10, 12, 15, 16, 128, 256, 2 ** 31, 2 ** 32 - 1, 2 ** 32 - 8, 2 ** 32 - 7, 2 ** 32 - 4):
+    """Only bits 0, 1, 2 mean anything. What is not run keeps its residuals, whatever they are, and its settings are not
+    read."""
+    for run in (0, 1, 2, 3, 4, 5, 6, 7, 8, 9, 10, 12, 15, 16, 128, 256, 2 ** 31, 2 ** 32 - 1, 2 ** 32 - 8, 2 ** 32 - 7,
+                2 ** 32 - 4):
         yield subblock(PICTURE + [1024], run=run, qp=(4, 10, 22), d=(USUAL, 0.0, 1 / 64), costs=MIXED)
     for run in range(8):
         bad = [run >> k & 1 == 0 for k in range(3)]
         yield subblock(PICTURE, run=run, qp=tuple(2 ** 32 - 1 if b else 4 for b in bad))
         yield subblock(PICTURE, run=run, d=tuple(NAN if b else USUAL for b in bad))
-        yield subblock(PICTURE, run=run, d=tuple("fff0000000000000" if b else USUAL for b in bad), qp=tuple(64 if b else 4 for b in bad))
+        yield subblock(PICTURE, run=run, d=tuple("fff0000000000000" if b else USUAL for b in bad),
+                       qp=tuple(64 if b else 4 for b in bad))
         parts = [PICTURE[:16], PICTURE[16:20], PICTURE[20:]]
         for value in (1024, -32768):
             yield subblock(sum(([value] * len(p) if b else p for p, b in zip(parts, bad)), []), run=run)
@@ -344,7 +365,8 @@ def nothing_run():
 
 
 def flags():
-    """A flag is yes when it is not 0. 11 is skipped in an inter slice only; cbf_all serves luma that is not intra-coded."""
+    """A flag is yes when it is not 0. 11 is skipped in an inter slice only; cbf_all serves luma that is not
+    intra-coded."""
     for a in (0, 1, 2, 255, 256, 2 ** 31, 2 ** 32 - 1):
         for b in (0, 1, 2, 2 ** 32 - 1):
             yield quantise([11, 0, 0, 0], intra_slice=a, intra_coded=b, costs=MIXED)
@@ -352,54 +374,64 @@ def flags():
 
 
 def thresholds():
-    """The skip on both sides of its threshold, at QPs where a coefficient meets it exactly (34: 311 and 359) and where none does; one place
-    that reaches it is enough."""
+    """The skip on both sides of its threshold, at QPs where a coefficient meets it exactly (34: 311 and 359) and where
+    none does; one place that reaches it is enough."""
     for slice_ in (0, 1):
         at = 311 if slice_ else 359
         for c in (at - 1, at, at + 1, -at, 1 - at):
             for place in (0, 1, 2, 3):
-                yield quantise(put(4, {place: c}), qp=34, intra_slice=slice_, intra_coded=1 - slice_, component=place % 3)
+                yield quantise(put(4, {place: c}), qp=34, intra_slice=slice_, intra_coded=1 - slice_,
+                               component=place % 3)
     for log2, qp, first in ((1, 0, 5), (2, 15, 17), (3, 29, 50), (1, 51, 2200), (2, 63, 4000)):
         for c in range(first, first * 2, max(1, first // 6)):
-            yield quantise(put(1 << 2 * log2, {1: -c, 2: c - 1}), log2, qp=qp, d=0.0, intra_slice=c % 2, intra_coded=c // 2 % 2)
+            yield quantise(put(1 << 2 * log2, {1: -c, 2: c - 1}), log2, qp=qp, d=0.0, intra_slice=c % 2,
+                           intra_coded=c // 2 % 2)
 
 
 # ---- the quantiser's choices
 
 def contexts():
     """No two cost entries equal; places first, after a zero and after a nonzero; magnitudes 1, 2 and above."""
-    blocks = [[200, 0, 0, 0], [0, 0, 0, 200], [200, 100, 60, 33], [0, 200, -17, 170], [-20, 0, 20, 0], [33, -33, 0, 33], [50, 49, 48, 47]]
+    blocks = [[200, 0, 0, 0], [0, 0, 0, 200], [200, 100, 60, 33], [0, 200, -17, 170], [-20, 0, 20, 0], [33, -33, 0, 33],
+              [50, 49, 48, 47]]
     for coded in (0, 1):
         for k in range(3):
             for block in blocks:
                 yield quantise(block, component=k, intra_coded=coded, costs=MIXED)
                 yield quantise(block, component=k, intra_coded=coded, costs=MIXED[::-1], d=1 / 8192)
-            yield quantise(put(16, {0: 60, 1: -20, 3: 9, 4: 33, 8: -70, 9: 12, 15: 500}), 2, component=k, intra_coded=coded, costs=MIXED)
+            yield quantise(put(16, {0: 60, 1: -20, 3: 9, 4: 33, 8: -70, 9: 12, 15: 500}), 2, component=k,
+                           intra_coded=coded, costs=MIXED)
     for block in blocks:
         yield quantise(block, costs=costs(0, run_1_1=900000, run_0_1=400000, level_0_1=100, level_1_1=70000))
-        yield quantise(block, component=2, costs=costs(1000, run_3_0=900000, run_2_0=400000, last_1_0=5000, cbf_3_0=1048576))
+        yield quantise(block, component=2, costs=costs(1000, run_3_0=900000, run_2_0=400000, last_1_0=5000,
+                                                       cbf_3_0=1048576))
 
 
 def scans():
-    """One coefficient at each place in turn and then a few together: the price tells how many zeros the scan has before it."""
-    for log2, places in ((1, range(4)), (2, range(16)), (3, (0, 1, 8, 16, 9, 2, 3, 7, 56, 62, 63)), (4, (1, 16, 240, 255)), (5, (1, 32, 992, 31))):
+    """One coefficient at each place in turn and then a few together: the price tells how many zeros the scan has before
+    it."""
+    for log2, places in ((1, range(4)), (2, range(16)), (3, (0, 1, 8, 16, 9, 2, 3, 7, 56, 62, 63)),
+                         (4, (1, 16, 240, 255)), (5, (1, 32, 992, 31))):
         for p in places:
             yield quantise(put(1 << 2 * log2, {p: -900}), log2, qp=16, costs=MIXED, component=p % 3)
     for log2 in (2, 3, 4, 5):
         # a pattern of zeros and nonzeros without a period
-        yield quantise([900 - 7 * i % 500 if i * i * (i + 7) % 11 < 5 else 0 for i in range(1 << 2 * log2)], log2, qp=16, costs=MIXED)
+        yield quantise([900 - 7 * i % 500 if i * i * (i + 7) % 11 < 5 else 0 for i in range(1 << 2 * log2)], log2,
+                       qp=16, costs=MIXED)
     yield quantise(list(range(160, 0, -10)), 2, d=1 / 64, costs=MIXED)
     yield quantise(list(range(-5, 11)), 2, qp=0, d=0.0, costs=MIXED)
 
 
 def ties():
-    """QP 4 at side 2 has a step of 16 and exact errors. With d = 0 a coefficient of 8 costs the same as 0 and 1, one of 24 as 1 and 2."""
+    """QP 4 at side 2 has a step of 16 and exact errors. With d = 0 a coefficient of 8 costs the same as 0 and 1, one of
+    24 as 1 and 2."""
     for block in ([16, 8, 0, 0], [16, -8, 8, 8], [24, 0, 0, 0], [-24, 24, 8, 40], [16, 40, 56, 8], [8, 8, 8, 10]):
         for k in range(3):
             yield quantise(block, d=0.0, component=k)
             yield quantise(block, d=0.0, costs=[0] * 28, component=k)
             yield quantise(block, d=USUAL, costs=[0] * 28, component=k)
-    # 9 costs 2^23 more as 0 than as 1; lambda is 32, so that 2^18 of rate and flag evens it out and the earlier cut wins
+    # 9 costs 2^23 more as 0 than as 1; lambda is 32, so that 2^18 of rate and flag evens it out and the earlier cut
+    # wins
     even = costs(32768, level_0_0=65536, last_0_0=131072)
     yield quantise([20, 9, 0, 0], costs=even)
     yield quantise([20, 9, 0, 0], costs=costs(32768, level_0_0=65536, last_0_0=131071))
@@ -420,11 +452,13 @@ def ties():
 
 
 def cuts():
-    """The walk keeps what a cut then drops: the last flag, or coding at all, is dear. A zero level can't be the end of a block, be it ever
-    so cheap to end there."""
+    """The walk keeps what a cut then drops: the last flag, or coding at all, is dear. A zero level can't be the end of
+    a block, be it ever so cheap to end there."""
     for block in ([20, 9, 0, 12], [20, 0, 0, 12], [200, 12, 12, 12], [12, 12, 12, 200], [0, 0, 0, 12]):
-        for table in (costs(100, last_0_0=900000), costs(100, last_0_1=900000), costs(100, cbf_1_1=1048576), costs(100, cbf_1_0=1048576),
-                      costs(100, cbf_1_0=1048576, run_0_1=0, run_1_1=0, last_0_1=0, cbf_1_1=0, run_1_0=500000, level_0_0=600000),
+        for table in (costs(100, last_0_0=900000), costs(100, last_0_1=900000), costs(100, cbf_1_1=1048576),
+                      costs(100, cbf_1_0=1048576),
+                      costs(100, cbf_1_0=1048576, run_0_1=0, run_1_1=0, last_0_1=0, cbf_1_1=0, run_1_0=500000,
+                            level_0_0=600000),
                       costs(0, cbf_1_0=1048576, run_0_1=0, run_1_1=1048576, run_1_0=1048576, run_0_0=1048576)):
             yield quantise(block, costs=table)
             yield quantise(block, costs=table, d=1 / 256)
@@ -440,7 +474,8 @@ def lowered():
 
 
 def negative_errors():
-    """QPs whose error scale is no power of two: a magnitude above its coefficient leaves an error below 0 with a fraction, which falls."""
+    """QPs whose error scale is no power of two: a magnitude above its coefficient leaves an error below 0 with a
+    fraction, which falls."""
     for qp in (0, 1, 2, 3, 5, 11, 27):
         for log2 in (1, 2):
             for c in (7, 9, 13, 15, 17, 23, 27, 31):
@@ -448,7 +483,8 @@ def negative_errors():
 
 
 def wide_rates():
-    """Rates past 31 bits. The first magnitude to pass is 2047 with every entry at its largest, 2050 with level[j+1][1] alone."""
+    """Rates past 31 bits. The first magnitude to pass is 2047 with every entry at its largest, 2050 with level[j+1][1]
+    alone."""
     for d in (0.0, 1 / 8192, USUAL, 1.0):
         for c in (20456, 20466, 20476, 20496, 20506, 32767):
             yield quantise([c, 0, 0, 0], qp=0, d=d, costs=LARGEST)
@@ -468,7 +504,8 @@ def in_the_second_mode(*sections, every=1):
 
 def refusals_of_the_second_mode():
     """The nine in their order, and each limit with its neighbour."""
-    yield from in_the_second_mode(order_of_the_quantiser, order_of_three_components, late_refusals_of_three_components, nothing_run, sides)
+    yield from in_the_second_mode(order_of_the_quantiser, order_of_three_components, late_refusals_of_three_components,
+                                  nothing_run, sides)
     yield from in_the_second_mode(qps, lengths, samples, every=3)
     yield from in_the_second_mode(lambdas, every=5)
     yield from in_the_second_mode(levels, prices, distortions)
@@ -492,7 +529,8 @@ def the_walks_choices_in_the_second_mode():
     yield from in_the_second_mode(wide_rates, every=2)
 
 
-# At QP 4, side 2 and d = 1/1024 a coefficient c as magnitude a costs (c - 16a)², and so many UNITs of a rate cost the same. The sign is 4 of them.
+# At QP 4, side 2 and d = 1/1024 a coefficient c as magnitude a costs (c - 16a)², and so many UNITs of a rate cost the
+# same. The sign is 4 of them.
 UNIT = 8192
 
 
@@ -502,32 +540,37 @@ def in_units(**entries):
 
 
 def where_the_walk_is_dearer():
-    """A nonzero level after a 0 is dear, so that the one before is coded for the sake of the next; so is the 0 after a 0; a level in the middle
-    is not worth its flag, or worth it only as it keeps another away from a 0; each also one unit of rate to either side, in every component."""
+    """A nonzero level after a 0 is dear, so that the one before is coded for the sake of the next; so is the 0 after a
+    0; a level in the middle is not worth its flag, or worth it only as it keeps another away from a 0; each also one
+    unit of rate to either side, in every component."""
     for k in range(3):
         row, last = (0, 0) if k == 0 else (2, 1)
         name = lambda table, r, column: "%s_%d_%d" % (table, r, column)
         for more in (-1, 0, 1):
             # 12 as 1 costs 16 + 4 + 126 or so, as 0 it is 144
             dear = {name("level", row, 0): 126 + more}
-            for block in ([12, 32, 0, 0], [12, -32, 12, 32], [0, 12, 12, -32], [12, 12, 12, 12], [32, 12, 12, 32], [-12, 12, 32, 12]):
+            for block in ([12, 32, 0, 0], [12, -32, 12, 32], [0, 12, 12, -32], [12, 12, 12, 12], [32, 12, 12, 32],
+                          [-12, 12, 32, 12]):
                 yield least(quantise(block, component=k, costs=in_units(**dear, **{name("run", row + 1, 0): 50})))
                 yield least(quantise(block, component=k, costs=in_units(**dear, **{name("run", row + 1, 1): 20})))
             for block in ([32, 12, 32, 0], [32, 12, 12, 32], [12, 32, -12, 32]):
                 yield least(quantise(block, component=k, costs=in_units(**{name("last", last, 0): 124 + more})))
-                yield least(quantise(block, component=k, costs=in_units(**{name("last", last, 0): 124 + more, name("run", row, 1): 3})))
+                yield least(quantise(block, component=k,
+                                     costs=in_units(**{name("last", last, 0): 124 + more, name("run", row, 1): 3})))
     # the same in larger blocks: side 4 has a step of 8 and squares of 4 units, side 8 a step of 4 and squares of 16
     for log2, c in ((2, 6), (3, 3)):
         dear = in_units(level_0_0=126, run_1_0=50, run_1_1=4, last_0_0=1)
         for shift in range(4):
-            yield least(quantise([(0, c, c, 2 * c, 0, -c, 0, 3 * c)[(i * i + shift) % 8] for i in range(1 << 2 * log2)], log2, costs=dear))
+            yield least(quantise([(0, c, c, 2 * c, 0, -c, 0, 3 * c)[(i * i + shift) % 8] for i in range(1 << 2 * log2)],
+                                 log2, costs=dear))
             yield least(quantise([(0, c, -c)[(i * (i + shift)) % 3] for i in range(1 << 2 * log2)], log2, costs=dear))
 
 
 def ties_of_the_second_mode():
     """At equal price the first in dictionary order, of magnitudes in scan order."""
     dear = {"level_0_0": 126, "run_1_1": 20}
-    # one of the two twelves is coded, at the same price: the later one, also where a search forwards would know only that it comes after a 0
+    # one of the two twelves is coded, at the same price: the later one, also where a search forwards would know only
+    # that it comes after a 0
     for block in ([12, 12, 32, 0], [-12, 12, 32, 0], [12, -12, -32, 0], [12, 12, 32, 8], [12, 12, 12, 32]):
         yield least(quantise(block, costs=in_units(**dear)))
         yield least(quantise(block, costs=in_units(**dear, last_0_0=1)))
@@ -542,7 +585,8 @@ def ties_of_the_second_mode():
     for places in ((2, 16), (7, 56), (6, 49), (9, 10, 17)):
         yield least(quantise(put(64, {p: 3 if p % 2 else -3 for p in places}), 3, costs=one))
     # with a lambda of 0, or tables of zeros, halves of a step tie everywhere
-    for block in ([8, 16, 8, 0], [-8, 16, -8, 24], [24, -24, 24, -24], [40, 8, 24, 16], [8, 24, 8, 12], [-40, -24, -8, -16]):
+    for block in ([8, 16, 8, 0], [-8, 16, -8, 24], [24, -24, 24, -24], [40, 8, 24, 16], [8, 24, 8, 12],
+                  [-40, -24, -8, -16]):
         for k in range(3):
             yield least(quantise(block, component=k, d=0.0))
             yield least(quantise(block, component=k, d=0.0, costs=MIXED))
@@ -568,8 +612,8 @@ def levels_at_equal_price():
 
 
 def close_prices():
-    """907 at QP 63 costs 51,599,931 × 1,069,869 + 1 more as 0 than as 1: at that lambda and that rate, coding each place saves 1, of a price that
-    has more digits than an f64. One unit of rate more, and nothing is coded."""
+    """907 at QP 63 costs 51,599,931 × 1,069,869 + 1 more as 0 than as 1: at that lambda and that rate, coding each
+    place saves 1, of a price that has more digits than an f64. One unit of rate more, and nothing is coded."""
     for block in ([907] * 1024, [-907, 907, 0, 907] * 256):
         for rate in (1069868, 1069869, 1069870):
             yield least(quantise(block, 5, qp=63, d=51599931 / 32768, costs=costs(0, level_0_0=rate - 32768)))
@@ -620,14 +664,17 @@ def spaces(good=GOOD):
     """Exactly one space between words and none at the ends; a tab, a carriage return and the like are no spaces."""
     for line in good.values():
         verb, rest = line.split(b" ", 1)
-        yield from (b" " + line, line + b" ", line + b"  ", verb + b"  " + rest, rest, verb + b"\t" + rest, line + b"\r", line + b"\t", b"\t" + line)
-        yield from (line.replace(b" ", b"  "), line.replace(b" ", b"\t"), line.replace(b" ", b""), line.replace(b" ", b","), line.replace(b" ", b"\xc2\xa0"))
+        yield from (b" " + line, line + b" ", line + b"  ", verb + b"  " + rest, rest, verb + b"\t" + rest,
+                    line + b"\r", line + b"\t", b"\t" + line)
+        yield from (line.replace(b" ", b"  "), line.replace(b" ", b"\t"), line.replace(b" ", b""),
+                    line.replace(b" ", b","), line.replace(b" ", b"\xc2\xa0"))
         yield from (line[:-2] + b"  " + line[-1:], line[:-2] + b"\v" + line[-1:], line[:-2] + b"\r" + line[-1:])
 
 
 def verbs():
     """Unknown, alone, in upper case, cut or longer; an empty line, a space, bytes that are no text."""
-    yield from (b"", b" ", b"\r", b"\t", b"\0", b"\xff", b"-", b"0", b":", b"accepted :", b"malformed", b"# transform 1 1 4 1 2 3 4", b"help", b"quit")
+    yield from (b"", b" ", b"\r", b"\t", b"\0", b"\xff", b"-", b"0", b":", b"accepted :", b"malformed",
+                b"# transform 1 1 4 1 2 3 4", b"help", b"quit")
     yield from like_a_verb(GOOD)
 
 
@@ -635,7 +682,8 @@ def like_a_verb(good):
     for verb, line in good.items():
         rest = line.split(b" ", 1)[1]
         yield from (verb, verb + b" ", verb + b":", verb + b"\0", verb.upper(), verb.title())
-        for other in (verb.upper(), verb.title(), verb[:-1], verb + b"s", b"\xef\xbb\xbf" + verb, b"\0" + verb, verb[:-1] + bytes([verb[-1] | 128])):
+        for other in (verb.upper(), verb.title(), verb[:-1], verb + b"s", b"\xef\xbb\xbf" + verb, b"\0" + verb,
+                      verb[:-1] + bytes([verb[-1] | 128])):
             yield other + b" " + rest
     for verb in good:
         for other in good:
@@ -644,7 +692,8 @@ def like_a_verb(good):
 
 
 def numbers_in_every_field():
-    """No sign but a minus before a digit from 1 to 9, no leading zero, no point, no other base; and nothing past the field's type."""
+    """No sign but a minus before a digit from 1 to 9, no leading zero, no point, no other base; and nothing past the
+    field's type."""
     yield from like_a_number(GOOD)
     yield replaced(GOOD[b"transform"], 1, b"1" * 60000)
     yield replaced(GOOD[b"transform"], 3, b"0" * 60000 + b"4")
@@ -658,7 +707,8 @@ def like_a_number(good):
             w = words[at]
             if kind == "lambda":
                 continue
-            bad = [b"+" + w, b"-0", b"00", b"0" + w, b"-", b"--1", b"-01", w + b".0", w + b".", b"0x" + w, w + b"e0", b"a", w + b"a", b""]
+            bad = [b"+" + w, b"-0", b"00", b"0" + w, b"-", b"--1", b"-01", w + b".0", w + b".", b"0x" + w, w + b"e0",
+                   b"a", w + b"a", b""]
             bad += [b"\xd9\xa1", w + b"\0", w + b"\xff", b"1-", b"1 ", b"'1'", b"1_0", b":", b"/"]
             bad += [b"%d" % n for n in PAST_TYPE[kind]] + ([b"-1"] if kind != "sample" else [])
             yield from (replaced(line, at, b) for b in bad)
@@ -669,15 +719,20 @@ def lambdas_in_hex(good=GOOD):
     for verb in good:
         for at, kind in chosen_fields(verb):
             if kind == "lambda":
-                for w in (b"3f5000000000000", b"3f500000000000000", b"3F50000000000000", b"3f5000000000000A", b"0x3f500000000000", b"0x3f50000000000000",
-                          b"3f5000000000000g", b"3f5000000000000`", b"3f5000000000000:", b"3f5000000000000/", b"3f5000000000000@", b"-3f5000000000000",
-                          b"+3f5000000000000", b"0.0009765625", b"nan", b"0", b"", b"1", b"3f50 000000000000", b"3f5000000000000\0", b"3f5000000000000\xb0",
-                          b"abcdefabcdefabcd", b"ABCDEFABCDEFABCD", b"0123456789abcdef", b"7FF8000000000000", b"fFf8000000000000"):
+                for w in (b"3f5000000000000", b"3f500000000000000", b"3F50000000000000", b"3f5000000000000A",
+                          b"0x3f500000000000", b"0x3f50000000000000",
+                          b"3f5000000000000g", b"3f5000000000000`", b"3f5000000000000:", b"3f5000000000000/",
+                          b"3f5000000000000@", b"-3f5000000000000",
+                          b"+3f5000000000000", b"0.0009765625", b"nan", b"0", b"", b"1", b"3f50 000000000000",
+                          b"3f5000000000000\0", b"3f5000000000000\xb0",
+                          b"abcdefabcdefabcd", b"ABCDEFABCDEFABCD", b"0123456789abcdef", b"7FF8000000000000",
+                          b"fFf8000000000000"):
                     yield replaced(good[verb], at, w)
 
 
 def missing_and_more(good=GOOD):
-    """Each field left out, or once more; N one more or less than the samples; a line that ends after each of its words."""
+    """Each field left out, or once more; N one more or less than the samples; a line that ends after each of its
+    words."""
     for verb, line in good.items():
         words = line.split(b" ")
         n = len(FIELDS[verb]) - FIELDS[verb][::-1].index("n")
@@ -703,8 +758,8 @@ def most_samples():
 
 
 def long_lines():
-    """The longest request of the first mode that can be read has 58,083 bytes. A longer line is passed over to its end, and gets one answer: what
-    stands in it behind the first 65,535 bytes, or any other number, is no request."""
+    """The longest request of the first mode that can be read has 58,083 bytes. A longer line is passed over to its end,
+    and gets one answer: what stands in it behind the first 65,535 bytes, or any other number, is no request."""
     most = 2 ** 32 - 1
     yield subblock([-32768] * 8192, 2 ** 64 - 1, most, (most,) * 3, (NAN,) * 3, most, most, [2 ** 64 - 1] * 28)
     good = GOOD[b"transform"]
@@ -722,8 +777,10 @@ def malformed_in_the_second_mode():
     """Some of each kind; verbs that look like the two; the longest request that can be read, of 58,089 bytes."""
     yield from spaces(LEAST)
     yield from like_a_verb(LEAST)
-    for verb in (b"quantise-", b"quantise -least", b"quantise least", b"quantise_least", b"quantiseleast", b"quantise--least", b"quantise-LEAST",
-                 b"quantise-least-least", b"least", b"-least", b"least-quantise", b"quantise-lease", b"quantise-most", b"quantise-l", b"subblock-leas",
+    for verb in (b"quantise-", b"quantise -least", b"quantise least", b"quantise_least", b"quantiseleast",
+                 b"quantise--least", b"quantise-LEAST",
+                 b"quantise-least-least", b"least", b"-least", b"least-quantise", b"quantise-lease", b"quantise-most",
+                 b"quantise-l", b"subblock-leas",
                  b"sub-block-least", b"sub_block_least"):
         like = LEAST[b"quantise-least" if verb.find(b"quantise") >= 0 else b"subblock-least"]
         yield verb + b" " + like.split(b" ", 1)[1]
@@ -734,7 +791,8 @@ def malformed_in_the_second_mode():
     for n in (8192, 8193):
         yield least(quantise([20, 7, 0, 0] + [0] * (n - 4)))
         yield least(subblock(PICTURE + [1] * (n - 24)))
-    yield least(subblock([-32768] * 8192, 2 ** 64 - 1, 2 ** 32 - 1, (2 ** 32 - 1,) * 3, (NAN,) * 3, 2 ** 32 - 1, 2 ** 32 - 1, [2 ** 64 - 1] * 28))
+    yield least(subblock([-32768] * 8192, 2 ** 64 - 1, 2 ** 32 - 1, (2 ** 32 - 1,) * 3, (NAN,) * 3, 2 ** 32 - 1,
+                         2 ** 32 - 1, [2 ** 64 - 1] * 28))
     yield from LEAST.values()
 
 
@@ -744,10 +802,14 @@ def last():
 
 
 SECTIONS = [
-    the_papers_numbers, run_only, exact_halves, sides, lambdas, qps, cost_entries, lengths, samples, levels, prices, widest_prices, distortions, order_of_the_quantiser,
-    order_of_the_transform, order_of_three_components, late_refusals_of_three_components, masks, nothing_run, flags, thresholds, contexts, scans, ties,
-    cuts, lowered, negative_errors, wide_rates, spaces, verbs, numbers_in_every_field, lambdas_in_hex, missing_and_more, most_samples, long_lines,
-    refusals_of_the_second_mode, what_runs_in_the_second_mode, the_walks_choices_in_the_second_mode, where_the_walk_is_dearer, ties_of_the_second_mode,
+    the_papers_numbers, run_only, exact_halves, sides, lambdas, qps, cost_entries, lengths, samples, levels, prices,
+    widest_prices, distortions, order_of_the_quantiser,
+    order_of_the_transform, order_of_three_components, late_refusals_of_three_components, masks, nothing_run, flags,
+    thresholds, contexts, scans, ties,
+    cuts, lowered, negative_errors, wide_rates, spaces, verbs, numbers_in_every_field, lambdas_in_hex, missing_and_more,
+    most_samples, long_lines,
+    refusals_of_the_second_mode, what_runs_in_the_second_mode, the_walks_choices_in_the_second_mode,
+    where_the_walk_is_dearer, ties_of_the_second_mode,
     levels_at_equal_price, close_prices, malformed_in_the_second_mode,
 ]
 

@@ -1,5 +1,5 @@
-"""Request lines of the protocol, as bytes without a newline. What is not said is as in the paper's P5: QP 4, luma, intra-coded, intra slice,
-d 1/1024, every cost entry 32768."""
+"""Request lines of the protocol, as bytes without a newline. What is not said is as in the paper's P5: QP 4, luma,
+intra-coded, intra slice, d 1/1024, every cost entry 32768."""
 import math, struct
 
 FLAT = [32768] * 28
@@ -27,7 +27,8 @@ def quantise(coefficients, log2=1, component=0, qp=4, d=USUAL, intra_slice=1, in
 
 def subblock(residuals, log2=2, run=7, qp=(4, 4, 4), d=(USUAL,) * 3, intra_slice=1, intra_coded=1, costs=FLAT, n=None):
     settings = " ".join(f"{a} {bits(b)}" for a, b in zip(qp, d))
-    return f"subblock {log2} {run} {settings} {intra_slice} {intra_coded} {' '.join(map(str, costs))} {numbers(residuals, n)}".encode()
+    flags = f"{intra_slice} {intra_coded}"
+    return f"subblock {log2} {run} {settings} {flags} {' '.join(map(str, costs))} {numbers(residuals, n)}".encode()
 
 
 def least(line):

@@ -1,5 +1,6 @@
-// Standard input line by line, over a buffer that the caller lends. A line is at most a byte shorter than the buffer; a longer
-// one is passed over. Every other byte that was read is handed out once, in its order.
+// Standard input line by line, over a buffer that the caller lends. A line is at most a byte shorter than the buffer; a
+// longer one is passed over. Proved is what becomes of bytes that stand in the buffer: a line begins with all that was
+// left there, and what is left behind it begins after its newline. What a read brings cannot be stated.
 use libc::STDIN_FILENO;
 ghost use mathlib.Core.Path.{_≡_};
 ghost use Prim.Native.Nat.{_+_, _-_, _≤_, _<_};
