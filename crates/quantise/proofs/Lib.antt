@@ -16,3 +16,4 @@ pub mod Accepting
 pub mod Surplus
 pub mod Coincide
 pub mod OwnRows
+pub mod TwoModes

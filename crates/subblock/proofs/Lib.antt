@@ -13,3 +13,4 @@ pub mod NotRun
 pub mod LumaAlone
 pub mod Finished
 pub mod Coincide
+pub mod TwoModes
