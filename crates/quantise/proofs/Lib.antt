@@ -17,3 +17,4 @@ pub mod Surplus
 pub mod Coincide
 pub mod OwnRows
 pub mod TwoModes
+pub mod Cap

@@ -14,3 +14,4 @@ pub mod LumaAlone
 pub mod Finished
 pub mod Coincide
 pub mod TwoModes
+pub mod Cap
