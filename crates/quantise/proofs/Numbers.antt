@@ -1,6 +1,6 @@
 -- The paper's numbers for the quantiser, P5 to P9, and numbers of the project's own that tell apart what those let through, computed
--- over the definitions of the call: refusal, count, price and levels. The project's own were worked out by a program that shares
--- nothing with these definitions.
+-- over the definitions of the call: refusal, count, price and levels, and the m that P6 names. The project's own were
+-- worked out by a program that shares nothing with these definitions.
 -- Assumes nothing.
 use mathlib.Core.Path.{_≡_, refl}
 use mathlib.Core.Bool.{Bool, true, false}
@@ -9,6 +9,7 @@ use Prim.Native.Nat.{ℕ}
 use lib.ListN.{replicate}
 use lib.IntN.{ℤ, pos, negsuc, negℤ}
 use lib.Ieee.{Float, fin, nan}
+use Rattle.tables.specs.Scan.{scanAt}
 use Rattle.refusals.specs.declared.Component.the-variants.{Y, U, «V»}
 use Rattle.price.specs.declared.Costs.{Costs}
 use Rattle.price.specs.declared.Settings.{Settings}
@@ -16,6 +17,7 @@ use Rattle.quantise.specs.declared.Mode.{Mode}
 use Rattle.quantise.specs.declared.Mode.the-variants.{Walk, Least}
 use Rattle.quantise.specs.Block.{Quant, called, calledIn, isSkipped}
 use Rattle.quantise.specs.Call.{coded, refusedWith, quantAnswer, quantBuffer}
+use Rattle.quantise.proofs.Promises.{rounded}
 
 -- n, and -n
 abbrev pub p : ℕ → ℤ
@@ -61,7 +63,8 @@ abbrev pub Numbers : Type 0
 Numbers =
     -- P5, with a surplus behind the block
     Gives (small usual true (p 20 ∷ p 7 ∷ p 0 ∷ p 0 ∷ p 9 ∷ m 9 ∷ [])) 1 22282240 (p 1 ∷ p 0 ∷ p 0 ∷ p 0 ∷ p 9 ∷ m 9 ∷ [])
-    -- P6
+    -- P6, whose m is 2
+    × (rounded (small usual true (m 24 ∷ p 0 ∷ p 0 ∷ p 0 ∷ [])) 0 ≡ 2)
     × Gives (small usual true (m 24 ∷ p 0 ∷ p 0 ∷ p 0 ∷ [])) 1 22020096 (m 1 ∷ p 0 ∷ p 0 ∷ p 0 ∷ [])
     -- P7
     × Gives (small (parts 0) true (p 16 ∷ p 8 ∷ p 0 ∷ p 0 ∷ [])) 1 16777216 (p 1 ∷ p 0 ∷ p 0 ∷ p 0 ∷ [])
@@ -74,8 +77,8 @@ Numbers =
     × (isSkipped (small usual false (p 12 ∷ p 0 ∷ p 0 ∷ p 0 ∷ [])) ≡ false)
 
 pub numbers : Numbers
-unfolding calledIn quantAnswer quantBuffer isSkipped
-numbers = ((refl, refl), (refl, refl), (refl, refl), (refl, refl), (refl, refl), refl, (refl, refl), refl)
+unfolding calledIn quantAnswer quantBuffer isSkipped scanAt
+numbers = ((refl, refl), refl, (refl, refl), (refl, refl), (refl, refl), (refl, refl), refl, (refl, refl), refl)
 
 -- what P5 to P12 let through
 pub own :
