@@ -63,7 +63,7 @@ module _ (c : Quant) (ok : quantVerdict c ≡ accepted) where
     unfolding uncodedHere
     D-bound = facts .distortion walks
 
-    -- after any of its steps, up to 4,096, which is side 64
+    -- the walk's running total after any number of steps up to 4,096; a call that is accepted has 1,024 at most
     pub totals-below : (i : ℕ) → i ≤ 4096
         → (walk (ruleOf c) 0 (start (ruleOf c) (places c)) (take i (places c))) .base < 2 ^ 62
     unfolding start

@@ -16,7 +16,7 @@ use Rattle.price.specs.declared.Settings.{Settings}
 use Rattle.quantise.specs.declared.Mode.{Mode}
 use Rattle.quantise.specs.declared.Mode.the-variants.{Walk, Least}
 use Rattle.quantise.specs.Block.{Quant, called, calledIn, isSkipped}
-use Rattle.quantise.specs.Call.{coded, refusedWith, quantAnswer, quantBuffer}
+use Rattle.quantise.specs.Call.{uncodedHere, coded, refusedWith, quantAnswer, quantBuffer}
 use Rattle.quantise.proofs.Promises.{rounded}
 
 -- n, and -n
@@ -70,15 +70,16 @@ Numbers =
     × Gives (small (parts 0) true (p 16 ∷ p 8 ∷ p 0 ∷ p 0 ∷ [])) 1 16777216 (p 1 ∷ p 0 ∷ p 0 ∷ p 0 ∷ [])
     -- P8
     × Gives (small high true (p 10 ∷ p 0 ∷ p 0 ∷ p 0 ∷ [])) 0 42991616 (p 0 ∷ p 0 ∷ p 0 ∷ p 0 ∷ [])
-    -- P9: 9 is skipped, 10 isn't; in an inter slice 11 is, 12 isn't
+    -- P9: 9 is skipped, and loses what its D says for a price of 0; 10 isn't; in an inter slice 11 is, 12 isn't
     × Gives (small usual true (p 9 ∷ p 0 ∷ p 0 ∷ p 0 ∷ [])) 0 0 (p 0 ∷ p 0 ∷ p 0 ∷ p 0 ∷ [])
+    × (uncodedHere (small usual true (p 9 ∷ p 0 ∷ p 0 ∷ p 0 ∷ [])) ≡ 21233664)
     × (isSkipped (small usual true (p 10 ∷ p 0 ∷ p 0 ∷ p 0 ∷ [])) ≡ false)
     × Gives (small usual false (p 11 ∷ p 0 ∷ p 0 ∷ p 0 ∷ [])) 0 0 (p 0 ∷ p 0 ∷ p 0 ∷ p 0 ∷ [])
     × (isSkipped (small usual false (p 12 ∷ p 0 ∷ p 0 ∷ p 0 ∷ [])) ≡ false)
 
 pub numbers : Numbers
-unfolding calledIn quantAnswer quantBuffer isSkipped scanAt
-numbers = ((refl, refl), refl, (refl, refl), (refl, refl), (refl, refl), (refl, refl), refl, (refl, refl), refl)
+unfolding calledIn quantAnswer quantBuffer isSkipped uncodedHere scanAt
+numbers = ((refl, refl), refl, (refl, refl), (refl, refl), (refl, refl), (refl, refl), refl, refl, (refl, refl), refl)
 
 -- what P5 to P12 let through
 pub own :
