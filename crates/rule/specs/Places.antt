@@ -3,7 +3,7 @@ use mathlib.Core.Path.{_≡_}
 use mathlib.Core.List.{List, map}
 use Prim.Native.Nat.{ℕ, _*_, _≤_, _<_}
 use lib.ListN.{length, getD, drop}
-use Rattle.tables.specs.Scan.{scan, scanAt}
+use Rattle.tables.specs.Scan.{mostPlaces, scan, scanAt}
 use Rattle.price.specs.Level.{magnitude}
 use Rattle.price.specs.Price.{nonzeros}
 use Rattle.rule.specs.declared.scale.Scale.{Scale}
@@ -30,7 +30,7 @@ pub record Scanned (side : ℕ) (held : List ℕ) : Type 0 where
   pub is : held ≡ scan side side
   pub some : 1 ≤ side
   pub full : length (scan side side) ≡ side * side
-  pub few : side * side ≤ 4096
+  pub few : side * side ≤ mostPlaces
 
 -- magnitudes that can be weighed: what refusals 7 and 8 leave, and nothing is kept whose m is 0
 pub record Weighable (p : Prices) (g : Scale) (side : ℕ) (kept : List ℕ) : Type 0 where

@@ -7,6 +7,10 @@ use lib.Dec.{eqb}
 use lib.ListN.{getD}
 use Rattle.integers.specs.Tests.{listed}
 
+-- the places of the largest block, 32 wide and 32 high: scan places and block places are counts below it
+abbrev pub mostPlaces : ℕ
+mostPlaces = 1024
+
 -- x on the diagonal d runs from `low` to `high`, and has `count` values
 unfoldable pub low : (h d : ℕ) → ℕ
 low h d = d - (h - 1)

@@ -4,7 +4,7 @@ ghost use mathlib.Core.Path.{_≡_};
 ghost use Prim.Native.Nat.{_≤_, _<_, _*_, _^_};
 ghost use lib.ListN.{length, getD, set};
 ghost use lib.IntN.{pos};
-ghost use Rattle.tables.specs.Scan.{scan, scanAt, square};
+ghost use Rattle.tables.specs.Scan.{mostPlaces, scan, scanAt, square};
 
 // A place in scan order, and a place in the block by rows. What they hold is reached in this file alone, so that only the lookup
 // turns the first into the second, and none can be taken for the other.
@@ -13,7 +13,7 @@ pub struct ScanPlace(usize);
 pub struct BlockPlace(usize);
 
 fn copy(from: &[u16], to: &mut [u16])
-    requires { ⌜ (length (now from) ≡ length (now to)) × (length (now to) ≤ 1024) ⌝ }
+    requires { ⌜ (length (now from) ≡ length (now to)) × (length (now to) ≤ mostPlaces) ⌝ }
     ensures { λ _. ⌜ now (to .exit) ≡ now (from .entry) ⌝ }
 {
     let n = to.len();
@@ -48,15 +48,16 @@ pub fn fill_scan(log2: usize, held: &mut [u16])
 }
 
 pub fn scan_place(p: usize) -> ScanPlace
-    ensures { λ r. ⌜ r .0 ≡ p ⌝ }
+    requires { ⌜ p < mostPlaces ⌝ }
+    ensures { λ r. ⌜ (r .0 ≡ p) × (r .0 < mostPlaces) ⌝ }
 {
     ScanPlace(p)
 }
 
 // The lookup. `held` is the scan of a block w wide and h high.
 pub fn block_place(held: &[u16], w: usize, h: usize, p: ScanPlace) -> BlockPlace
-    requires { ⌜ (now held ≡ scan w h) × (p .0 < length (now held)) × (1 ≤ w) × (1 ≤ h) ⌝ }
-    ensures { λ r. ⌜ (r .0 ≡ scanAt w h (p .0)) × (r .0 < w * h) ⌝ }
+    requires { ⌜ (now held ≡ scan w h) × (p .0 < length (now held)) × (1 ≤ w) × (1 ≤ h) × (w * h ≤ mostPlaces) ⌝ }
+    ensures { λ r. ⌜ (r .0 ≡ scanAt w h (p .0)) × (r .0 < w * h) × (r .0 < mostPlaces) ⌝ }
 {
     let at = p.0;
     BlockPlace(held[at] as usize)

@@ -24,12 +24,18 @@ loop-holds c =
     (omega arith, omega arith, cut-none (s .args .side) (s .args .cut) (s .args .scan .now) (s .pre .0) (s .args .levels .now) (s .pre .1))
 
 scan-place-requires : tie.Need-scan-place-requires Inv-loop μ-loop
-scan-place-requires c κs = search needs
+scan-place-requires c κs = let h = c .before .before .before .before .before .pre in omega (arith, h .2, h .0 .few)
 
 block-place-requires : tie.Need-block-place-requires Inv-loop μ-loop
 block-place-requires c κs =
-    let sc = c .before .before .before .before .before .before .pre .0 in
-    (sc .is, omega (arith, c .scan-place .ensures, ap length (sc .is), sc .full, c .before .before .before .before .before .before .pre .2), sc .some, sc .some)
+    let h = c .before .before .before .before .before .before .pre in
+    let sc = h .0 in (
+      sc .is,
+      omega (arith, c .scan-place .ensures .0, ap length (sc .is), sc .full, h .2),
+      sc .some,
+      sc .some,
+      sc .few,
+    )
 
 put-magnitude-requires : tie.Need-put-magnitude-requires Inv-loop μ-loop
 put-magnitude-requires c κs = omega (arith, c .block-place .ensures .1, c .before .before .before .before .loop .inv .2 .room)
@@ -48,7 +54,8 @@ loop-again c =
     let put : _ ≡ set (l .levels) (scanAt (s .args .side) (s .args .side) (l .n)) 0 =
     c .before .before .put-magnitude .ensures
     ∙ ap (λ (k : ℕ). set (l .levels) k 0)
-    (c .before .before .before .block-place .ensures .0 ∙ ap (scanAt (s .args .side) (s .args .side)) (c .before .before .before .before .scan-place .ensures)) in (
+    (c .before .before .before .block-place .ensures .0
+    ∙ ap (scanAt (s .args .side) (s .args .side)) (c .before .before .before .before .scan-place .ensures .0)) in (
       omega arith,
       omega arith,
       rw put (cut-more (s .args .side) (s .args .cut) (s .args .scan .now) (s .pre .0) (s .args .levels .now) (l .n) (l .levels) (l .inv .0) (omega (arith, s .pre .2)) (l .inv .2)),

@@ -52,12 +52,17 @@ loop-holds c =
     (s .pre .0, s .pre .1, begun (s .args .p) (s .args .g) (s .args .first) (s .args .side) (s .args .kept .now) (s .args .scan .now) (s .pre .0) (s .pre .1) (s .args .levels .now) (s .args .count) (s .pre .3) (s .pre .4) (s .pre .2))
 
 scan-place-requires : tie.Need-scan-place-requires Inv-loop μ-loop
-scan-place-requires c κs = search needs
+scan-place-requires c κs = omega (arith, inside-n c, c .before .loop .inv .0 .few)
 
 block-place-requires : tie.Need-block-place-requires Inv-loop μ-loop
 block-place-requires c κs =
-    let sc = c .before .before .loop .inv .0 in
-    (sc .is, omega (arith, c .scan-place .ensures, inside-n (c .before), long (c .before)), sc .some, sc .some)
+    let sc = c .before .before .loop .inv .0 in (
+      sc .is,
+      omega (arith, c .scan-place .ensures .0, inside-n (c .before), long (c .before)),
+      sc .some,
+      sc .some,
+      sc .few,
+    )
 
 magnitude-at-requires : tie.Need-magnitude-at-requires Inv-loop μ-loop
 magnitude-at-requires c κs = omega (arith, c .block-place .ensures .1, c .before .before .before .loop .inv .1 .weighable .room)
@@ -66,7 +71,7 @@ magnitude-at-requires c κs = omega (arith, c .block-place .ensures .1, c .befor
 place-is : (c : tie.After-block-place Inv-loop μ-loop) → c .block-place .result .0 ≡ scanned (c .before .before)
 place-is c =
     let s = start (c .before .before) in
-    c .block-place .ensures .0 ∙ ap (scanAt (s .args .side) (s .args .side)) (c .before .scan-place .ensures)
+    c .block-place .ensures .0 ∙ ap (scanAt (s .args .side) (s .args .side)) (c .before .scan-place .ensures .0)
 
 kept-is : (c : tie.After-magnitude-at Inv-loop μ-loop)
     → c .magnitude-at .result ≡ getD (start (turn c) .args .kept .now) (scanned (turn c)) 0

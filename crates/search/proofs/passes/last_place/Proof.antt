@@ -52,7 +52,8 @@ kept-is c =
     let s = start (turn c) in
     c .magnitude-at .ensures
     ∙ ap (λ (k : ℕ). getD (s .args .kept .now) k 0)
-    (c .before .block-place .ensures .0 ∙ ap (scanAt (s .args .side) (s .args .side)) (c .before .before .scan-place .ensures))
+    (c .before .block-place .ensures .0
+    ∙ ap (scanAt (s .args .side) (s .args .side)) (c .before .before .scan-place .ensures .0))
 
 loop-holds : tie.Need-loop-holds Inv-loop μ-loop
 loop-holds c =
@@ -60,12 +61,17 @@ loop-holds c =
     (omega arith, s .pre .2 ∙ kept-in-all (s .args .side) (s .args .kept .now) (s .args .scan .now) (s .pre .0) (s .pre .1))
 
 scan-place-requires : tie.Need-scan-place-requires Inv-loop μ-loop
-scan-place-requires c κs = search needs
+scan-place-requires c κs = omega (arith, inside-n c, start c .pre .0 .few)
 
 block-place-requires : tie.Need-block-place-requires Inv-loop μ-loop
 block-place-requires c κs =
-    let sc = start (c .before) .pre .0 in
-    (sc .is, omega (arith, c .scan-place .ensures, inside-n (c .before), long (c .before)), sc .some, sc .some)
+    let sc = start (c .before) .pre .0 in (
+      sc .is,
+      omega (arith, c .scan-place .ensures .0, inside-n (c .before), long (c .before)),
+      sc .some,
+      sc .some,
+      sc .few,
+    )
 
 magnitude-at-requires : tie.Need-magnitude-at-requires Inv-loop μ-loop
 magnitude-at-requires c κs = omega (arith, c .block-place .ensures .1, start (c .before .before) .pre .1)

@@ -61,12 +61,17 @@ sub-n : tie.Need-sub-n Inv-loop μ-loop
 sub-n c = search needs
 
 scan-place-requires : tie.Need-scan-place-requires Inv-loop μ-loop
-scan-place-requires c κs = search needs
+scan-place-requires c κs = omega (arith, inside-turn c, start c .pre .0 .few)
 
 block-place-requires : tie.Need-block-place-requires Inv-loop μ-loop
 block-place-requires c κs =
-    let sc = start (c .before) .pre .0 in
-    (sc .is, omega (arith, c .scan-place .ensures, inside-turn (c .before), ap length (sc .is), sc .full), sc .some, sc .some)
+    let sc = start (c .before) .pre .0 in (
+      sc .is,
+      omega (arith, c .scan-place .ensures .0, inside-turn (c .before), ap length (sc .is), sc .full),
+      sc .some,
+      sc .some,
+      sc .few,
+    )
 
 magnitude-at-requires : tie.Need-magnitude-at-requires Inv-loop μ-loop
 magnitude-at-requires c κs = omega (arith, c .block-place .ensures .1, start (c .before .before) .pre .1 .weighable .room)
@@ -74,7 +79,8 @@ magnitude-at-requires c κs = omega (arith, c .block-place .ensures .1, start (c
 kept-is : (c : tie.After-magnitude-at Inv-loop μ-loop) → c .magnitude-at .result ≡ kept-there (turn c)
 kept-is c =
     let a = start (turn c) .args in
-    let at = c .before .block-place .ensures .0 ∙ ap (scanAt (a .side) (a .side)) (c .before .before .scan-place .ensures) in
+    let at =
+    c .before .block-place .ensures .0 ∙ ap (scanAt (a .side) (a .side)) (c .before .before .scan-place .ensures .0) in
     c .magnitude-at .ensures ∙ ap (λ (k : ℕ). getD (a .kept .now) k 0) at
 
 pass-requires : tie.Need-pass-requires Inv-loop μ-loop

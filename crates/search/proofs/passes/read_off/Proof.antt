@@ -64,13 +64,18 @@ shared-slice-read-a-2 : tie.Need-shared-slice-read-a-2 Inv-loop μ-loop
 shared-slice-read-a-2 c = let t = c .before .before .before in omega (arith, inside-n t, start t .pre .4)
 
 scan-place-requires : tie.Need-scan-place-requires Inv-loop μ-loop
-scan-place-requires c κs = search needs
+scan-place-requires c κs = let t = turn (c .before) in omega (arith, inside-n t, start t .pre .0 .few)
 
 block-place-requires : tie.Need-block-place-requires Inv-loop μ-loop
 block-place-requires c κs =
     let t = turn (c .before .before) in
-    let sc = start t .pre .0 in
-    (sc .is, omega (arith, c .scan-place .ensures, inside-n t, ap length (sc .is), sc .full), sc .some, sc .some)
+    let sc = start t .pre .0 in (
+      sc .is,
+      omega (arith, c .scan-place .ensures .0, inside-n t, ap length (sc .is), sc .full),
+      sc .some,
+      sc .some,
+      sc .few,
+    )
 
 put-magnitude-requires : tie.Need-put-magnitude-requires Inv-loop μ-loop
 put-magnitude-requires c κs = omega (arith, c .block-place .ensures .1, turn (c .before .before .before) .before .loop .inv .room)
@@ -96,11 +101,11 @@ loop-again c =
     let t = turn j in
     let s = start t in
     let l = t .before .loop in
+    let at = c .before .before .before .before .before in
     let put : _ ≡ set (l .levels) (scanAt (s .args .side) (s .args .side) (l .n)) (j .if1 .a) =
     c .before .before .before .before .put-magnitude .ensures
     ∙ ap (λ (k : ℕ). set (l .levels) k (j .if1 .a))
-    (c .before .before .before .before .before .block-place .ensures .0
-    ∙ ap (scanAt (s .args .side) (s .args .side)) (c .before .before .before .before .before .before .scan-place .ensures)) in
+    (at .block-place .ensures .0 ∙ ap (scanAt (s .args .side) (s .args .side)) (at .before .scan-place .ensures .0)) in
     rw (put, c .stop-with .ensures)
     (reads (s .args .side) (s .args .end) _ _ _ (s .args .scan .now) (s .pre .0) (l .levels) (l .stop) (l .prev) (l .n) (l .inv) (t .loop-test .taken) (j .if1 .a) (level-is j))
 

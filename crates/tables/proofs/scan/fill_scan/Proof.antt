@@ -4,12 +4,12 @@ use mathlib.Core.Path.{_≡_, sym, ap, _∙_}
 use Prim.Native.Nat.{ℕ, _≤_, _^_}
 use native.Mathlib.Omega.{arith}
 use borrow.Author.Needs.{needs}
-use Rattle.tables.specs.Scan.{square}
+use Rattle.tables.specs.Scan.{mostPlaces, square}
 use Rattle.tables.proofs.scan.fill_scan.Statement.{statement}
 use Rattle.tables.proofs.scan.fill_scan.Tie as tie
 
 -- a list of the side's 4^k numbers fits what is lent
-fitting : (k : ℕ) {n l : ℕ} → n ≡ 4 ^ l → l ≡ k → 4 ^ k ≤ 1024 → (4 ^ k ≡ n) × (n ≤ 1024)
+fitting : (k : ℕ) {n l : ℕ} → n ≡ 4 ^ l → l ≡ k → 4 ^ k ≤ mostPlaces → (4 ^ k ≡ n) × (n ≤ mostPlaces)
 fitting k e q h =
     let room = e ∙ ap (λ (m : ℕ). 4 ^ m) q in
     (sym room, omega (arith, room))
