@@ -62,7 +62,8 @@ uint32_t galemosu_sub_block(int16_t *buffer, size_t len, size_t log2_luma, const
 
 /* The same, each component to its cheapest block of all. */
 uint32_t galemosu_sub_block_least(int16_t *buffer, size_t len, size_t log2_luma, const uint32_t qp[3],
-    const double lambda[3], uint32_t run, uint32_t intra_slice, uint32_t intra_coded, const uint64_t costs[28], uint64_t answer[7]);
+    const double lambda[3], uint32_t run, uint32_t intra_slice, uint32_t intra_coded, const uint64_t costs[28],
+    uint64_t answer[7]);
 
 #ifdef __cplusplus
 }

@@ -16,10 +16,12 @@ use Rattle.subblock.specs.Call as three
 use Rattle.galemosu.specs.Wire.{quantResult, quantWritten, threeResult, threeWritten}
 
 module _ (a : QuantAnswer) (o : quant.Outcome) (e : quant.paperOf a ≡ o) where
-  pub quant-coded : (c : Coded) → a ≡ quantised.Coded c → (0 ≡ quantResult o) × (0 ∷ c .count ∷ c .price ∷ [] ≡ quantWritten o)
+  pub quant-coded : (c : Coded) → a ≡ quantised.Coded c → (0 ≡ quantResult o)
+      × (0 ∷ c .count ∷ c .price ∷ [] ≡ quantWritten o)
   quant-coded c f = let h = ap quant.paperOf (sym f) ∙ e in (ap quantResult h, ap quantWritten h)
 
-  pub quant-refused : (why : Refusal) (k : Component) (n m : ℕ) → a ≡ quantised.Refused why k → n ≡ numberOf why → m ≡ componentOf k
+  pub quant-refused : (why : Refusal) (k : Component) (n m : ℕ) → a ≡ quantised.Refused why k → n ≡ numberOf why
+      → m ≡ componentOf k
       → (n ≡ quantResult o) × (m ∷ 0 ∷ 0 ∷ [] ≡ quantWritten o)
   quant-refused why k n m f en em =
       let h = ap quant.paperOf (sym f) ∙ e in
@@ -27,10 +29,12 @@ module _ (a : QuantAnswer) (o : quant.Outcome) (e : quant.paperOf a ≡ o) where
 
 module _ (a : SubBlockAnswer) (o : three.Outcome) (e : three.paperOf a ≡ o) where
   pub three-coded : (y u v : Coded) → a ≡ answers.Coded y u v
-      → (0 ≡ threeResult o) × (0 ∷ y .count ∷ u .count ∷ v .count ∷ y .price ∷ u .price ∷ v .price ∷ [] ≡ threeWritten o)
+      → (0 ≡ threeResult o)
+      × (0 ∷ y .count ∷ u .count ∷ v .count ∷ y .price ∷ u .price ∷ v .price ∷ [] ≡ threeWritten o)
   three-coded y u v f = let h = ap three.paperOf (sym f) ∙ e in (ap threeResult h, ap threeWritten h)
 
-  pub three-refused : (why : Refusal) (k : Component) (n m : ℕ) → a ≡ answers.Refused why k → n ≡ numberOf why → m ≡ componentOf k
+  pub three-refused : (why : Refusal) (k : Component) (n m : ℕ) → a ≡ answers.Refused why k → n ≡ numberOf why
+      → m ≡ componentOf k
       → (n ≡ threeResult o) × (m ∷ 0 ∷ 0 ∷ 0 ∷ 0 ∷ 0 ∷ 0 ∷ [] ≡ threeWritten o)
   three-refused why k n m f en em =
       let h = ap three.paperOf (sym f) ∙ e in

@@ -1,5 +1,5 @@
--- What crosses to C and Rust as flat numbers: flags, the cost tables, the settings of three components, and the answers. A call's
--- result is 0 for accepted, else the refusal's number; its answer is written in either case.
+-- What crosses to C and Rust as flat numbers: flags, the cost tables, the settings of three components, and the
+-- answers. A call's result is 0 for accepted, else the refusal's number; its answer is written in either case.
 use mathlib.Core.Bool.{Bool, not}
 use mathlib.Core.List.{List, [], _∷_}
 use Prim.Native.Nat.{ℕ, _+_}
@@ -58,7 +58,8 @@ settingsIn qp lambda k = record { qp = getD qp k 0; lambda = getD lambda k nan }
 
 abbrev pub threeAsked : Mode → List ℤ → ℕ → List ℕ → List Float → ℕ → ℕ → ℕ → List ℕ → three.SubBlock
 threeAsked mode buffer side qp lambda run slice coded costs =
-    three.calledIn mode buffer side (settingsIn qp lambda 0) (settingsIn qp lambda 1) (settingsIn qp lambda 2) run (yes slice) (yes coded) (costsIn costs)
+    three.calledIn mode buffer side (settingsIn qp lambda 0) (settingsIn qp lambda 1) (settingsIn qp lambda 2) run
+    (yes slice) (yes coded) (costsIn costs)
 
 -- its result, and its answer: the component, the counts of Y, U, V, their prices
 abbrev pub threeResult : three.Outcome → ℕ

@@ -8,7 +8,8 @@ ghost use Rattle.refusals.specs.declared.Component.the-variants.{Y, U, «V»};
 ghost use Rattle.quantise.specs.declared.Mode.the-variants.{Least};
 ghost use Rattle.quantise.specs.Call.{quantAnswer, quantBuffer};
 ghost use Rattle.subblock.specs.Call.{subBlockAnswer, subBlockBuffer};
-ghost use Rattle.galemosu.specs.Wire.{quantAsked, quantResult, quantWritten, threeAsked, threeResult, threeWritten};
+ghost use Rattle.galemosu.specs.Wire.{quantAsked, quantResult, quantWritten, threeAsked, threeResult};
+ghost use Rattle.galemosu.specs.Wire.{threeWritten};
 
 #[no_mangle]
 pub extern "C" fn galemosu_quantise_least_y(
@@ -21,9 +22,16 @@ pub extern "C" fn galemosu_quantise_least_y(
     costs: &[u64; 28],
     answer: &mut [u64; 3],
 ) -> u32
-    ensures result { λ r. ⌜ r ≡ quantResult (quantAnswer (quantAsked Least (now (block .entry)) «log2_side» Y qp lambda «intra_slice» «intra_coded» (now (costs .entry)))) ⌝ }
-    ensures answer { λ _. ⌜ now (answer .exit) ≡ quantWritten (quantAnswer (quantAsked Least (now (block .entry)) «log2_side» Y qp lambda «intra_slice» «intra_coded» (now (costs .entry)))) ⌝ }
-    ensures block { λ _. ⌜ now (block .exit) ≡ quantBuffer (quantAsked Least (now (block .entry)) «log2_side» Y qp lambda «intra_slice» «intra_coded» (now (costs .entry))) ⌝ }
+    ensures result { λ r. ⌜ r ≡ quantResult
+        (quantAnswer (quantAsked Least (now (block .entry)) «log2_side» Y qp lambda «intra_slice» «intra_coded»
+        (now (costs .entry)))) ⌝ }
+    ensures answer { λ _. ⌜ now (answer .exit)
+        ≡ quantWritten
+        (quantAnswer (quantAsked Least (now (block .entry)) «log2_side» Y qp lambda «intra_slice» «intra_coded»
+        (now (costs .entry)))) ⌝ }
+    ensures block { λ _. ⌜ now (block .exit)
+        ≡ quantBuffer (quantAsked Least (now (block .entry)) «log2_side» Y qp lambda «intra_slice» «intra_coded»
+        (now (costs .entry))) ⌝ }
 {
     quantise(
         block,
@@ -50,9 +58,16 @@ pub extern "C" fn galemosu_quantise_least_u(
     costs: &[u64; 28],
     answer: &mut [u64; 3],
 ) -> u32
-    ensures result { λ r. ⌜ r ≡ quantResult (quantAnswer (quantAsked Least (now (block .entry)) «log2_side» U qp lambda «intra_slice» «intra_coded» (now (costs .entry)))) ⌝ }
-    ensures answer { λ _. ⌜ now (answer .exit) ≡ quantWritten (quantAnswer (quantAsked Least (now (block .entry)) «log2_side» U qp lambda «intra_slice» «intra_coded» (now (costs .entry)))) ⌝ }
-    ensures block { λ _. ⌜ now (block .exit) ≡ quantBuffer (quantAsked Least (now (block .entry)) «log2_side» U qp lambda «intra_slice» «intra_coded» (now (costs .entry))) ⌝ }
+    ensures result { λ r. ⌜ r ≡ quantResult
+        (quantAnswer (quantAsked Least (now (block .entry)) «log2_side» U qp lambda «intra_slice» «intra_coded»
+        (now (costs .entry)))) ⌝ }
+    ensures answer { λ _. ⌜ now (answer .exit)
+        ≡ quantWritten
+        (quantAnswer (quantAsked Least (now (block .entry)) «log2_side» U qp lambda «intra_slice» «intra_coded»
+        (now (costs .entry)))) ⌝ }
+    ensures block { λ _. ⌜ now (block .exit)
+        ≡ quantBuffer (quantAsked Least (now (block .entry)) «log2_side» U qp lambda «intra_slice» «intra_coded»
+        (now (costs .entry))) ⌝ }
 {
     quantise(
         block,
@@ -79,9 +94,16 @@ pub extern "C" fn galemosu_quantise_least_v(
     costs: &[u64; 28],
     answer: &mut [u64; 3],
 ) -> u32
-    ensures result { λ r. ⌜ r ≡ quantResult (quantAnswer (quantAsked Least (now (block .entry)) «log2_side» «V» qp lambda «intra_slice» «intra_coded» (now (costs .entry)))) ⌝ }
-    ensures answer { λ _. ⌜ now (answer .exit) ≡ quantWritten (quantAnswer (quantAsked Least (now (block .entry)) «log2_side» «V» qp lambda «intra_slice» «intra_coded» (now (costs .entry)))) ⌝ }
-    ensures block { λ _. ⌜ now (block .exit) ≡ quantBuffer (quantAsked Least (now (block .entry)) «log2_side» «V» qp lambda «intra_slice» «intra_coded» (now (costs .entry))) ⌝ }
+    ensures result { λ r. ⌜ r ≡ quantResult
+        (quantAnswer (quantAsked Least (now (block .entry)) «log2_side» «V» qp lambda «intra_slice» «intra_coded»
+        (now (costs .entry)))) ⌝ }
+    ensures answer { λ _. ⌜ now (answer .exit)
+        ≡ quantWritten
+        (quantAnswer (quantAsked Least (now (block .entry)) «log2_side» «V» qp lambda «intra_slice» «intra_coded»
+        (now (costs .entry)))) ⌝ }
+    ensures block { λ _. ⌜ now (block .exit)
+        ≡ quantBuffer (quantAsked Least (now (block .entry)) «log2_side» «V» qp lambda «intra_slice» «intra_coded»
+        (now (costs .entry))) ⌝ }
 {
     quantise(
         block,
@@ -109,9 +131,16 @@ pub extern "C" fn galemosu_sub_block_least(
     costs: &[u64; 28],
     answer: &mut [u64; 7],
 ) -> u32
-    ensures result { λ r. ⌜ r ≡ threeResult (subBlockAnswer (threeAsked Least (now (buffer .entry)) «log2_luma» (now (qp .entry)) (now (lambda .entry)) run «intra_slice» «intra_coded» (now (costs .entry)))) ⌝ }
-    ensures answer { λ _. ⌜ now (answer .exit) ≡ threeWritten (subBlockAnswer (threeAsked Least (now (buffer .entry)) «log2_luma» (now (qp .entry)) (now (lambda .entry)) run «intra_slice» «intra_coded» (now (costs .entry)))) ⌝ }
-    ensures buffer { λ _. ⌜ now (buffer .exit) ≡ subBlockBuffer (threeAsked Least (now (buffer .entry)) «log2_luma» (now (qp .entry)) (now (lambda .entry)) run «intra_slice» «intra_coded» (now (costs .entry))) ⌝ }
+    ensures result { λ r. ⌜ r ≡ threeResult
+        (subBlockAnswer (threeAsked Least (now (buffer .entry)) «log2_luma» (now (qp .entry)) (now (lambda .entry))
+        run «intra_slice» «intra_coded» (now (costs .entry)))) ⌝ }
+    ensures answer { λ _. ⌜ now (answer .exit)
+        ≡ threeWritten
+        (subBlockAnswer (threeAsked Least (now (buffer .entry)) «log2_luma» (now (qp .entry)) (now (lambda .entry))
+        run «intra_slice» «intra_coded» (now (costs .entry)))) ⌝ }
+    ensures buffer { λ _. ⌜ now (buffer .exit)
+        ≡ subBlockBuffer (threeAsked Least (now (buffer .entry)) «log2_luma» (now (qp .entry)) (now (lambda .entry))
+        run «intra_slice» «intra_coded» (now (costs .entry))) ⌝ }
 {
     sub_block(
         buffer,

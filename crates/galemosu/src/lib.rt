@@ -1,4 +1,5 @@
-// The exports for C and Rust, nothing else: each takes whole numbers, f64s, slices and arrays, and answers 0 or a refusal's number.
+// The exports for C and Rust, nothing else: each takes whole numbers, f64s, slices and arrays, and answers 0 or a
+// refusal's number.
 use crate::wire::quantise;
 use crate::wire::sub_block;
 use quantise::Mode;
@@ -12,7 +13,8 @@ ghost use Rattle.transform.specs.Call.{called, transBuffer, transVerdict};
 ghost use Rattle.quantise.specs.declared.Mode.the-variants.{Walk};
 ghost use Rattle.quantise.specs.Call.{quantAnswer, quantBuffer};
 ghost use Rattle.subblock.specs.Call.{subBlockAnswer, subBlockBuffer};
-ghost use Rattle.galemosu.specs.Wire.{transResult, quantAsked, quantResult, quantWritten, threeAsked, threeResult, threeWritten};
+ghost use Rattle.galemosu.specs.Wire.{transResult, quantAsked, quantResult, quantWritten, threeAsked};
+ghost use Rattle.galemosu.specs.Wire.{threeResult, threeWritten};
 
 mod least;
 mod wire;
@@ -39,9 +41,16 @@ pub extern "C" fn galemosu_quantise_y(
     costs: &[u64; 28],
     answer: &mut [u64; 3],
 ) -> u32
-    ensures result { λ r. ⌜ r ≡ quantResult (quantAnswer (quantAsked Walk (now (block .entry)) «log2_side» Y qp lambda «intra_slice» «intra_coded» (now (costs .entry)))) ⌝ }
-    ensures answer { λ _. ⌜ now (answer .exit) ≡ quantWritten (quantAnswer (quantAsked Walk (now (block .entry)) «log2_side» Y qp lambda «intra_slice» «intra_coded» (now (costs .entry)))) ⌝ }
-    ensures block { λ _. ⌜ now (block .exit) ≡ quantBuffer (quantAsked Walk (now (block .entry)) «log2_side» Y qp lambda «intra_slice» «intra_coded» (now (costs .entry))) ⌝ }
+    ensures result { λ r. ⌜ r ≡ quantResult
+        (quantAnswer (quantAsked Walk (now (block .entry)) «log2_side» Y qp lambda «intra_slice» «intra_coded»
+        (now (costs .entry)))) ⌝ }
+    ensures answer { λ _. ⌜ now (answer .exit)
+        ≡ quantWritten
+        (quantAnswer (quantAsked Walk (now (block .entry)) «log2_side» Y qp lambda «intra_slice» «intra_coded»
+        (now (costs .entry)))) ⌝ }
+    ensures block { λ _. ⌜ now (block .exit)
+        ≡ quantBuffer (quantAsked Walk (now (block .entry)) «log2_side» Y qp lambda «intra_slice» «intra_coded»
+        (now (costs .entry))) ⌝ }
 {
     quantise(
         block,
@@ -68,9 +77,16 @@ pub extern "C" fn galemosu_quantise_u(
     costs: &[u64; 28],
     answer: &mut [u64; 3],
 ) -> u32
-    ensures result { λ r. ⌜ r ≡ quantResult (quantAnswer (quantAsked Walk (now (block .entry)) «log2_side» U qp lambda «intra_slice» «intra_coded» (now (costs .entry)))) ⌝ }
-    ensures answer { λ _. ⌜ now (answer .exit) ≡ quantWritten (quantAnswer (quantAsked Walk (now (block .entry)) «log2_side» U qp lambda «intra_slice» «intra_coded» (now (costs .entry)))) ⌝ }
-    ensures block { λ _. ⌜ now (block .exit) ≡ quantBuffer (quantAsked Walk (now (block .entry)) «log2_side» U qp lambda «intra_slice» «intra_coded» (now (costs .entry))) ⌝ }
+    ensures result { λ r. ⌜ r ≡ quantResult
+        (quantAnswer (quantAsked Walk (now (block .entry)) «log2_side» U qp lambda «intra_slice» «intra_coded»
+        (now (costs .entry)))) ⌝ }
+    ensures answer { λ _. ⌜ now (answer .exit)
+        ≡ quantWritten
+        (quantAnswer (quantAsked Walk (now (block .entry)) «log2_side» U qp lambda «intra_slice» «intra_coded»
+        (now (costs .entry)))) ⌝ }
+    ensures block { λ _. ⌜ now (block .exit)
+        ≡ quantBuffer (quantAsked Walk (now (block .entry)) «log2_side» U qp lambda «intra_slice» «intra_coded»
+        (now (costs .entry))) ⌝ }
 {
     quantise(
         block,
@@ -97,9 +113,16 @@ pub extern "C" fn galemosu_quantise_v(
     costs: &[u64; 28],
     answer: &mut [u64; 3],
 ) -> u32
-    ensures result { λ r. ⌜ r ≡ quantResult (quantAnswer (quantAsked Walk (now (block .entry)) «log2_side» «V» qp lambda «intra_slice» «intra_coded» (now (costs .entry)))) ⌝ }
-    ensures answer { λ _. ⌜ now (answer .exit) ≡ quantWritten (quantAnswer (quantAsked Walk (now (block .entry)) «log2_side» «V» qp lambda «intra_slice» «intra_coded» (now (costs .entry)))) ⌝ }
-    ensures block { λ _. ⌜ now (block .exit) ≡ quantBuffer (quantAsked Walk (now (block .entry)) «log2_side» «V» qp lambda «intra_slice» «intra_coded» (now (costs .entry))) ⌝ }
+    ensures result { λ r. ⌜ r ≡ quantResult
+        (quantAnswer (quantAsked Walk (now (block .entry)) «log2_side» «V» qp lambda «intra_slice» «intra_coded»
+        (now (costs .entry)))) ⌝ }
+    ensures answer { λ _. ⌜ now (answer .exit)
+        ≡ quantWritten
+        (quantAnswer (quantAsked Walk (now (block .entry)) «log2_side» «V» qp lambda «intra_slice» «intra_coded»
+        (now (costs .entry)))) ⌝ }
+    ensures block { λ _. ⌜ now (block .exit)
+        ≡ quantBuffer (quantAsked Walk (now (block .entry)) «log2_side» «V» qp lambda «intra_slice» «intra_coded»
+        (now (costs .entry))) ⌝ }
 {
     quantise(
         block,
@@ -127,9 +150,16 @@ pub extern "C" fn galemosu_sub_block(
     costs: &[u64; 28],
     answer: &mut [u64; 7],
 ) -> u32
-    ensures result { λ r. ⌜ r ≡ threeResult (subBlockAnswer (threeAsked Walk (now (buffer .entry)) «log2_luma» (now (qp .entry)) (now (lambda .entry)) run «intra_slice» «intra_coded» (now (costs .entry)))) ⌝ }
-    ensures answer { λ _. ⌜ now (answer .exit) ≡ threeWritten (subBlockAnswer (threeAsked Walk (now (buffer .entry)) «log2_luma» (now (qp .entry)) (now (lambda .entry)) run «intra_slice» «intra_coded» (now (costs .entry)))) ⌝ }
-    ensures buffer { λ _. ⌜ now (buffer .exit) ≡ subBlockBuffer (threeAsked Walk (now (buffer .entry)) «log2_luma» (now (qp .entry)) (now (lambda .entry)) run «intra_slice» «intra_coded» (now (costs .entry))) ⌝ }
+    ensures result { λ r. ⌜ r ≡ threeResult
+        (subBlockAnswer (threeAsked Walk (now (buffer .entry)) «log2_luma» (now (qp .entry)) (now (lambda .entry))
+        run «intra_slice» «intra_coded» (now (costs .entry)))) ⌝ }
+    ensures answer { λ _. ⌜ now (answer .exit)
+        ≡ threeWritten
+        (subBlockAnswer (threeAsked Walk (now (buffer .entry)) «log2_luma» (now (qp .entry)) (now (lambda .entry))
+        run «intra_slice» «intra_coded» (now (costs .entry)))) ⌝ }
+    ensures buffer { λ _. ⌜ now (buffer .exit)
+        ≡ subBlockBuffer (threeAsked Walk (now (buffer .entry)) «log2_luma» (now (qp .entry)) (now (lambda .entry))
+        run «intra_slice» «intra_coded» (now (costs .entry))) ⌝ }
 {
     sub_block(
         buffer,

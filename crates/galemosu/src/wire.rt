@@ -14,7 +14,8 @@ ghost use mathlib.Core.Path.{_≡_};
 ghost use Prim.Native.Nat.{_≤_};
 ghost use Rattle.quantise.specs.Call.{quantAnswer, quantBuffer};
 ghost use Rattle.subblock.specs.Call.{paperOf, subBlockAnswer, subBlockBuffer};
-ghost use Rattle.galemosu.specs.Wire.{fourFrom, eightFrom, costsIn, quantAsked, quantResult, quantWritten, threeAsked, threeResult, threeWritten};
+ghost use Rattle.galemosu.specs.Wire.{fourFrom, eightFrom, costsIn, quantAsked, quantResult, quantWritten};
+ghost use Rattle.galemosu.specs.Wire.{threeAsked, threeResult, threeWritten};
 
 fn four(c: &[u64; 28], i: usize) -> [u64; 4]
     requires { ⌜ i ≤ 24 ⌝ }
@@ -62,9 +63,16 @@ pub fn quantise(
     answer: &mut [u64; 3],
     mode: Mode,
 ) -> u32
-    ensures result { λ r. ⌜ r ≡ quantResult (quantAnswer (quantAsked mode (now (block .entry)) «log2_side» component qp lambda «intra_slice» «intra_coded» (now (costs .entry)))) ⌝ }
-    ensures answer { λ _. ⌜ now (answer .exit) ≡ quantWritten (quantAnswer (quantAsked mode (now (block .entry)) «log2_side» component qp lambda «intra_slice» «intra_coded» (now (costs .entry)))) ⌝ }
-    ensures block { λ _. ⌜ now (block .exit) ≡ quantBuffer (quantAsked mode (now (block .entry)) «log2_side» component qp lambda «intra_slice» «intra_coded» (now (costs .entry))) ⌝ }
+    ensures result { λ r. ⌜ r ≡ quantResult
+        (quantAnswer (quantAsked mode (now (block .entry)) «log2_side» component qp lambda «intra_slice» «intra_coded»
+        (now (costs .entry)))) ⌝ }
+    ensures answer { λ _. ⌜ now (answer .exit)
+        ≡ quantWritten
+        (quantAnswer (quantAsked mode (now (block .entry)) «log2_side» component qp lambda «intra_slice» «intra_coded»
+        (now (costs .entry)))) ⌝ }
+    ensures block { λ _. ⌜ now (block .exit)
+        ≡ quantBuffer (quantAsked mode (now (block .entry)) «log2_side» component qp lambda «intra_slice» «intra_coded»
+        (now (costs .entry))) ⌝ }
 {
     let t = costs_of(costs);
     let coded = quant_nnz(
@@ -129,9 +137,16 @@ pub fn sub_block(
     answer: &mut [u64; 7],
     mode: Mode,
 ) -> u32
-    ensures result { λ r. ⌜ r ≡ threeResult (subBlockAnswer (threeAsked mode (now (buffer .entry)) «log2_luma» (now (qp .entry)) (now (lambda .entry)) run «intra_slice» «intra_coded» (now (costs .entry)))) ⌝ }
-    ensures answer { λ _. ⌜ now (answer .exit) ≡ threeWritten (subBlockAnswer (threeAsked mode (now (buffer .entry)) «log2_luma» (now (qp .entry)) (now (lambda .entry)) run «intra_slice» «intra_coded» (now (costs .entry)))) ⌝ }
-    ensures buffer { λ _. ⌜ now (buffer .exit) ≡ subBlockBuffer (threeAsked mode (now (buffer .entry)) «log2_luma» (now (qp .entry)) (now (lambda .entry)) run «intra_slice» «intra_coded» (now (costs .entry))) ⌝ }
+    ensures result { λ r. ⌜ r ≡ threeResult
+        (subBlockAnswer (threeAsked mode (now (buffer .entry)) «log2_luma» (now (qp .entry)) (now (lambda .entry))
+        run «intra_slice» «intra_coded» (now (costs .entry)))) ⌝ }
+    ensures answer { λ _. ⌜ now (answer .exit)
+        ≡ threeWritten
+        (subBlockAnswer (threeAsked mode (now (buffer .entry)) «log2_luma» (now (qp .entry)) (now (lambda .entry))
+        run «intra_slice» «intra_coded» (now (costs .entry)))) ⌝ }
+    ensures buffer { λ _. ⌜ now (buffer .exit)
+        ≡ subBlockBuffer (threeAsked mode (now (buffer .entry)) «log2_luma» (now (qp .entry)) (now (lambda .entry))
+        run «intra_slice» «intra_coded» (now (costs .entry))) ⌝ }
 {
     let q = Request {
         side: log2_luma,

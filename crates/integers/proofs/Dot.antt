@@ -19,7 +19,8 @@ sum-below (suc n) f g h = omega (arith, sum-below n f g (λ i l. h i (omega arit
 pub sum-within : (n b : ℕ) (f : ℕ → ℕ) → ((i : ℕ) → i < n → f i ≤ b) → sumℕ n f ≤ n * b
 unfolding sum
 sum-within zero b f h = omega arith
-sum-within (suc n) b f h = omega (arith, sum-within n b f (λ i l. h i (omega arith)), h n (omega arith), native.Mathlib.Nat.suc-mul n b)
+sum-within (suc n) b f h =
+    omega (arith, sum-within n b f (λ i l. h i (omega arith)), h n (omega arith), native.Mathlib.Nat.suc-mul n b)
 
 -- a part of a sum of naturals
 pub sum-part : (m n : ℕ) (f : ℕ → ℕ) → m ≤ n → sumℕ m f ≤ sumℕ n f
@@ -42,8 +43,13 @@ unfolding sum
 magnitude-dot zero b t x h = omega arith
 magnitude-dot (suc n) b t x h =
     let k : natAbs (t n) * natAbs (x n) ≤ natAbs (t n) * b = mul-le-mul-left (natAbs (t n)) (h n (omega arith)) in
-    omega
-    (arith, magnitude-dot n b t x (λ i l. h i (omega arith)), magnitude-+ (sumℤ n (λ i. t i *ℤ x i)) (t n *ℤ x n), magnitude-* (t n) (x n), add-mul (sumℕ n (λ i. natAbs (t i))) (natAbs (t n)) b)
+    omega (
+      arith,
+      magnitude-dot n b t x (λ i l. h i (omega arith)),
+      magnitude-+ (sumℤ n (λ i. t i *ℤ x i)) (t n *ℤ x n),
+      magnitude-* (t n) (x n),
+      add-mul (sumℕ n (λ i. natAbs (t i))) (natAbs (t n)) b,
+    )
 
 -- the same of naturals: weights w and values c
 pub weighted-within : (n b : ℕ) (w c : ℕ → ℕ) → ((i : ℕ) → i < n → c i ≤ b) → sumℕ n (λ i. w i * c i) ≤ sumℕ n w * b
@@ -54,7 +60,8 @@ weighted-within (suc n) b w c h =
     omega (arith, weighted-within n b w c (λ i l. h i (omega arith)), add-mul (sumℕ n w) (w n) b)
 
 -- a sum of products by its magnitudes
-pub magnitude-products : (n : ℕ) (t x : ℕ → ℤ) → natAbs (sumℤ n (λ i. t i *ℤ x i)) ≤ sumℕ n (λ i. natAbs (t i) * natAbs (x i))
+pub magnitude-products : (n : ℕ) (t x : ℕ → ℤ)
+    → natAbs (sumℤ n (λ i. t i *ℤ x i)) ≤ sumℕ n (λ i. natAbs (t i) * natAbs (x i))
 unfolding sum
 magnitude-products zero t x = omega arith
 magnitude-products (suc n) t x =

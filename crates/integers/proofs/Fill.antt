@@ -14,7 +14,8 @@ abbrev pub Filled : {A : Type 0} → A → List A → (ℕ → A) → ℕ → Ty
 Filled d l f k = (j : ℕ) → j < k → getD l j d ≡ f j
 
 module _ {A : Type 0} (d : A) where
-  pub filled-more : (l : List A) (f : ℕ → A) (k : ℕ) (v : A) → k < length l → v ≡ f k → Filled d l f k → Filled d (set l k v) f (k + 1)
+  pub filled-more : (l : List A) (f : ℕ → A) (k : ℕ) (v : A) → k < length l → v ≡ f k → Filled d l f k
+      → Filled d (set l k v) f (k + 1)
   filled-more l f k v h e old =
       below-more (λ (j : ℕ). getD (set l k v) j d ≡ f j) k
       (λ j lt. getD-set-other l k j v d (apart j lt) ∙ old j lt)

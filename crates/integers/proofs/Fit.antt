@@ -51,8 +51,10 @@ module _ (w : Width) (f : ℤ → ℤ → ℤ) (p q : ℤ) (hp : SFits w p) (hq 
   pub operation-is : toZ w (ofZ w (f (toZ w (ofZ w p)) (toZ w (ofZ w q)))) ≡ f p q
   operation-is = simp toZ-ofZ
 
--- One step of a sum of products, a + t·v: where the magnitudes together stay in the positive half, the product and the sum fit.
-module _ (w : Width) (a t v : ℤ) (ft : SFits w t) (fv : SFits w v) (h : natAbs a + natAbs t * natAbs v < 2 ^ hbits w) where
+-- One step of a sum of products, a + t·v: where the magnitudes together stay in the positive half, the product and the
+-- sum fit.
+module _ (w : Width) (a t v : ℤ) (ft : SFits w t) (fv : SFits w v)
+    (h : natAbs a + natAbs t * natAbs v < 2 ^ hbits w) where
   so-far : SFits w a
   so-far = fits a (omega arith)
 

@@ -1,5 +1,5 @@
--- The shift that floors, and the one that rounds: what is left of the argument says which number the result is, and how large it
--- can be.
+-- The shift that floors, and the one that rounds: what is left of the argument says which number the result is, and how
+-- large it can be.
 -- Assumes nothing.
 use mathlib.Core.Path.{_≡_, sym, _∙_, ap, subst}
 use Prim.Native.Nat.{ℕ, suc, _+_, _*_, _-_, _/_, _%_, _^_, _<_, _≤_}
@@ -24,7 +24,8 @@ floor-bound (pos a) h m q l b =
 floor-bound (negsuc a) h m q l b =
     of-choice (ltb h (suc a)) (negsuc (suc a - suc h)) (pos (h - suc a)) (λ (y : ℤ). natAbs (shrZ y m) ≤ q)
     (λ t.
-    let r : (suc a - suc h) / m < q = quotient-below (suc a - suc h) q m (omega arith) (omega (arith, ltb→lt h (suc a) t)) in
+    let r : (suc a - suc h) / m < q = quotient-below (suc a - suc h) q m (omega arith)
+    (omega (arith, ltb→lt h (suc a) t)) in
     omega arith)
     (λ t. let r : (h - suc a) / m < 1 = quotient-below (h - suc a) 1 m (omega arith) (omega arith) in omega arith)
 

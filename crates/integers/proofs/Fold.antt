@@ -1,5 +1,5 @@
--- The lemma of every butterfly. A row of weights that reads the same from both ends meets the sums of the values that stand
--- equally far from the two ends; one that changes its sign, the differences: half as many products do.
+-- The lemma of every butterfly. A row of weights that reads the same from both ends meets the sums of the values that
+-- stand equally far from the two ends; one that changes its sign, the differences: half as many products do.
 -- Assumes nothing.
 use mathlib.Core.Path.{_≡_, sym, _∙_, ap}
 use Prim.Native.Nat.{ℕ, _+_, _-_, _<_}
@@ -19,7 +19,8 @@ module _ (h : ℕ) (t x : ℕ → ℤ) where
       → sumℤ (h + h) (λ i. t i *ℤ x i) ≡ sumℤ h (λ i. t i *ℤ g (x i) (x (h + h - 1 - i)))
   folded g e =
       sum-halves ints h (λ i. t i *ℤ x i)
-      ∙ sum-ext onℤ h (λ i. t i *ℤ x i +ℤ t (h + h - 1 - i) *ℤ x (h + h - 1 - i)) (λ i. t i *ℤ g (x i) (x (h + h - 1 - i))) e
+      ∙ sum-ext onℤ h (λ i. t i *ℤ x i +ℤ t (h + h - 1 - i) *ℤ x (h + h - 1 - i))
+      (λ i. t i *ℤ g (x i) (x (h + h - 1 - i))) e
 
   pub fold-symmetric : ((i : ℕ) → i < h → t (h + h - 1 - i) ≡ t i)
       → sumℤ (h + h) (λ i. t i *ℤ x i) ≡ sumℤ h (λ i. t i *ℤ (x i +ℤ x (h + h - 1 - i)))

@@ -3,7 +3,8 @@
 use mathlib.Core.Path.{_≡_, _∙_, ap, sym}
 use mathlib.Core.Logic.{_≢_}
 use Prim.Native.Nat.{ℕ, _+_, _*_, _/_, _%_, _<_}
-use native.Mathlib.Nat.{mul-add-mod-self-right, mul-add-div-right, mod-eq-of-lt, div-eq-of-lt, mul-le-mul-right, suc-mul, add-zero, div-lt-iff-lt-mul, mod-lt, div-add-mod'}
+use native.Mathlib.Nat.{mul-add-mod-self-right, mul-add-div-right, mod-eq-of-lt, div-eq-of-lt, mul-le-mul-right}
+use native.Mathlib.Nat.{suc-mul, add-zero, div-lt-iff-lt-mul, mod-lt, div-add-mod'}
 use native.Mathlib.Omega.{arith}
 
 module _ (w a b : ℕ) (hb : b < w) where
@@ -18,11 +19,13 @@ module _ (w a b : ℕ) (hb : b < w) where
 
   -- two columns, and two rows, share no place
   pub columns-apart : (a′ b′ : ℕ) → b′ < w → b ≢ b′ → a * w + b ≢ a′ * w + b′
-  columns-apart a′ b′ hb′ d e = d (sym column-of ∙ ap (λ (i : ℕ). i % w) e ∙ mul-add-mod-self-right a′ w b′ ∙ mod-eq-of-lt hb′)
+  columns-apart a′ b′ hb′ d e =
+      d (sym column-of ∙ ap (λ (i : ℕ). i % w) e ∙ mul-add-mod-self-right a′ w b′ ∙ mod-eq-of-lt hb′)
 
   pub rows-apart : (a′ : ℕ) → a ≢ a′ → a * w + b ≢ a′ * w + b
   rows-apart a′ d e =
-      d (sym row-of ∙ ap (λ (i : ℕ). i / w) e ∙ mul-add-div-right {m = w} (omega arith) a′ b ∙ ap (λ (k : ℕ). a′ + k) (div-eq-of-lt hb) ∙ add-zero a′)
+      d (sym row-of ∙ ap (λ (i : ℕ). i / w) e ∙ mul-add-div-right {m = w} (omega arith) a′ b
+      ∙ ap (λ (k : ℕ). a′ + k) (div-eq-of-lt hb) ∙ add-zero a′)
 
 -- the row and the column of any place of a grid h high
 module _ (w h i : ℕ) (hw : 0 < w) (hi : i < h * w) where

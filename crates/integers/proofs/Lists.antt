@@ -1,4 +1,5 @@
--- What stands in a list made from another entry by entry, in one of which some entry, or none, passes a test, and in a part of a list.
+-- What stands in a list made from another entry by entry, in one of which some entry, or none, passes a test, and in a
+-- part of a list.
 -- Assumes nothing.
 use mathlib.Core.Path.{_≡_, refl}
 use mathlib.Core.Bool.{Bool, false}
@@ -11,7 +12,8 @@ use lib.Seq.{take-take}
 use Rattle.integers.specs.Tests.{some}
 use Rattle.integers.proofs.Tests.{neither}
 
-pub map-at : {A B : Type 0} (a : A) (b : B) (f : A → B) (l : List A) (k : ℕ) → k < length l → getD (map f l) k b ≡ f (getD l k a)
+pub map-at : {A B : Type 0} (a : A) (b : B) (f : A → B) (l : List A) (k : ℕ) → k < length l
+    → getD (map f l) k b ≡ f (getD l k a)
 map-at a b f [] k h = absurd (not-suc-le-zero h)
 map-at a b f (x ∷ xs) zero h = refl
 map-at a b f (x ∷ xs) (suc k) h = map-at a b f xs k (le-of-suc-le-suc h)

@@ -1,5 +1,5 @@
--- Sums over a list, as loops work them out: from the front, entry by entry or a part at a time, with what is summed so far; and as
--- a sum over the places of the list. Largest numbers and tests of a whole list are such sums.
+-- Sums over a list, as loops work them out: from the front, entry by entry or a part at a time, with what is summed so
+-- far; and as a sum over the places of the list. Largest numbers and tests of a whole list are such sums.
 -- Assumes nothing.
 use mathlib.Core.Path.{_≡_, refl, sym, ap, _∙_}
 use mathlib.Core.Bool.{Bool, true, false, _||_}
@@ -42,7 +42,8 @@ module _ {A B : Type 0} (o : Addition B) (f : A → B) where
   over-map g (x ∷ xs) = ap (λ (y : B). o .plus (f (g x)) y) (over-map g xs)
 
   -- from place i on
-  pub over-from : (l : List A) (i : ℕ) (d : A) → i < length l → over o f (drop i l) ≡ o .plus (f (getD l i d)) (over o f (drop (i + 1) l))
+  pub over-from : (l : List A) (i : ℕ) (d : A) → i < length l
+      → over o f (drop i l) ≡ o .plus (f (getD l i d)) (over o f (drop (i + 1) l))
   unfolding over
   over-from l i d h = rw (add-one, drop-cons l i d)
 
@@ -61,7 +62,8 @@ module _ {A B : Type 0} {o : Addition B} (w : Lawful o) (f : A → B) where
   pub over-next : (l : List A) (i : ℕ) (d : A) (s : B) → i < length l
       → o .plus (o .plus s (f (getD l i d))) (over o f (drop (i + 1) l)) ≡ o .plus s (over o f (drop i l))
   over-next l i d s h =
-      w .assoc s (f (getD l i d)) (over o f (drop (i + 1) l)) ∙ ap (λ (y : B). o .plus s y) (sym (over-from o f l i d h))
+      w .assoc s (f (getD l i d)) (over o f (drop (i + 1) l))
+      ∙ ap (λ (y : B). o .plus s y) (sym (over-from o f l i d h))
 
   -- the part from i to e, and what is behind it
   pub over-part : (l : List A) (i e : ℕ) → i ≤ e
@@ -70,7 +72,8 @@ module _ {A B : Type 0} {o : Addition B} (w : Lawful o) (f : A → B) where
       let k : i + (e - i) ≡ e = omega arith in
       ap (λ (m : List A). over o f m) (sym (take-append-drop (e - i) (drop i l)))
       ∙ over-append (take (e - i) (drop i l)) (drop (e - i) (drop i l))
-      ∙ ap (λ (m : List A). o .plus (over o f (take (e - i) (drop i l))) (over o f m)) (drop-drop (e - i) i l ∙ ap (λ (n : ℕ). drop n l) k)
+      ∙ ap (λ (m : List A). o .plus (over o f (take (e - i) (drop i l))) (over o f m)) (drop-drop (e - i) i l
+      ∙ ap (λ (n : ℕ). drop n l) k)
 
   -- and nothing more
   pub over-end : (l : List A) (i : ℕ) (s : B) → length l ≤ i → o .plus s (over o f (drop i l)) ≡ s

@@ -1,9 +1,11 @@
--- The ring laws of the integers that the kit lacks: regrouping, the product over a sum and a negation, its associativity.
+-- The ring laws of the integers that the kit lacks: regrouping, the product over a sum and a negation, its
+-- associativity.
 -- Assumes nothing.
 use mathlib.Core.Path.{_≡_, sym, _∙_, ap}
 use Prim.Native.Nat.{ℕ, zero, suc}
 use native.Mathlib.Omega.{arith}
-use lib.IntN.{ℤ, pos, negsuc, predℤ, negℤ, _+ℤ_, _-ℤ_, _*ℤ_, +ℤ-idl, +ℤ-invr, sucℤ-+ℤ, predℤ-+ℤ, sucℤ-*ℤ, predℤ-*ℤ, zero-*ℤ, *ℤ-comm}
+use lib.IntN.{ℤ, pos, negsuc, predℤ, negℤ, _+ℤ_, _-ℤ_, _*ℤ_, +ℤ-idl, +ℤ-invr, sucℤ-+ℤ, predℤ-+ℤ, sucℤ-*ℤ, predℤ-*ℤ}
+use lib.IntN.{zero-*ℤ, *ℤ-comm}
 use Rattle.integers.proofs.Parts.{+-parts, eq-of-parts, neg-unique}
 
 pub +-middle : (a b c d : ℤ) → (a +ℤ b) +ℤ (c +ℤ d) ≡ (a +ℤ c) +ℤ (b +ℤ d)

@@ -1,5 +1,6 @@
--- An integer that the machine holds in 16 bits, by a test of its sign: below 0 it is widened to 32 bits and negated, since -32768 has
--- no negation in 16; otherwise it is its own magnitude. Either way the magnitude fits. Assumes nothing.
+-- An integer that the machine holds in 16 bits, by a test of its sign: below 0 it is widened to 32 bits and negated,
+-- since -32768 has no negation in 16; otherwise it is its own magnitude. Either way the magnitude fits. Assumes
+-- nothing.
 use mathlib.Core.Path.{_≡_, ap}
 use mathlib.Core.Bool.{true, false, true≢false}
 use Prim.Native.Nat.{suc, _≤_, _<_}
@@ -24,7 +25,13 @@ below (pos n) f t = absurd (let q = ltb-true n 0 (rw (toZ-ofZ {w = w16} {z = pos
 below (negsuc n) f t =
     let b : n < 32768 = f .sfits in
     let g : SFits w32 (pos (suc n)) = omega arith in
-    record { wide = toZ-ofZ {w = w32} (sfits-widen tt f); flips = ap pos (zero-add (suc n)); low = omega arith; fits = g }
+    record {
+      wide = toZ-ofZ {w = w32} (sfits-widen tt f);
+      flips = ap pos (zero-add (suc n));
+      low = omega arith;
+      fits =
+          g;
+    }
 
 pub record Above (z : ℤ) : Type 0 where
   pub plain : T (nonNeg z)

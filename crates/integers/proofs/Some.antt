@@ -28,9 +28,11 @@ module _ {A : Type 0} (d : A) (f : A → Bool) where
       or-false true = refl
       or-false false = refl
   more (x ∷ xs) (suc k) h =
-      ap (λ (b : Bool). f x || b) (more xs k (le-of-suc-le-suc h)) ∙ or-assoc (f x) (some f (take k xs)) (f (getD xs k d))
+      ap (λ (b : Bool). f x || b) (more xs k (le-of-suc-le-suc h))
+      ∙ or-assoc (f x) (some f (take k xs)) (f (getD xs k d))
 
-  pub some-more : (xs : List A) (k : ℕ) → k < length xs → some f (take (k + 1) xs) ≡ (some f (take k xs) || f (getD xs k d))
+  pub some-more : (xs : List A) (k : ℕ) → k < length xs
+      → some f (take (k + 1) xs) ≡ (some f (take k xs) || f (getD xs k d))
   some-more xs k h = rw add-one (more xs k h)
 
   pub some-none : (xs : List A) → some f (take 0 xs) ≡ false
@@ -65,7 +67,8 @@ search-more n xs k h found e z q =
 pub none-above : (n : ℕ) (xs : List ℤ) → some (λ z. ltb n (natAbs z)) xs ≡ false → (k : ℕ) → k < length xs
     → natAbs (getD xs k (pos 0)) ≤ n
 none-above n xs e k h =
-    nltb→le n (natAbs (getD xs k (pos 0))) (no (ltb n (natAbs (getD xs k (pos 0)))) (none-passes (pos 0) (λ z. ltb n (natAbs z)) xs e k h))
+    nltb→le n (natAbs (getD xs k (pos 0)))
+    (no (ltb n (natAbs (getD xs k (pos 0)))) (none-passes (pos 0) (λ z. ltb n (natAbs z)) xs e k h))
   where
     no : (b : Bool) → b ≡ false → T (not b)
     no true q = absurd (let z : _≡_ {A = ℕ} 0 1 = cc in let none : ⊥ = omega arith in none)

@@ -1,5 +1,5 @@
--- Laws of finite sums, over any addition that is associative and commutative and has a nought: the same terms, sums of sums,
--- a map that keeps sums, splitting, reversal, exchange. `ints` and `nats` are the two instances.
+-- Laws of finite sums, over any addition that is associative and commutative and has a nought: the same terms, sums of
+-- sums, a map that keeps sums, splitting, reversal, exchange. `ints` and `nats` are the two instances.
 -- Assumes nothing.
 use mathlib.Core.Path.{_≡_, refl, sym, _∙_, ap}
 use Prim.Native.Nat.{ℕ, zero, suc, _+_, _-_, _<_}

@@ -17,10 +17,12 @@ unfolding all
 all-at zero f t i h = absurd (not-suc-le-zero h)
 all-at (suc n) f t i h =
     let b = and-yes (f n) (all n f) t in
-    ⊎-elim (λ e. subst (λ (k : ℕ). T (f k)) (sym e) (b .0)) (λ l. all-at n f (b .1) i l) (eq-or-lt-of-le (le-of-suc-le-suc h))
+    ⊎-elim (λ e. subst (λ (k : ℕ). T (f k)) (sym e) (b .0)) (λ l. all-at n f (b .1) i l)
+    (eq-or-lt-of-le (le-of-suc-le-suc h))
 
 module _ {A : Type 0} (d : A) where
-  every-from : (f : ℕ → A → Bool) (xs : List A) (i : ℕ) → T (every f i xs) → (k : ℕ) → k < length xs → T (f (i + k) (getD xs k d))
+  every-from : (f : ℕ → A → Bool) (xs : List A) (i : ℕ) → T (every f i xs) → (k : ℕ) → k < length xs
+      → T (f (i + k) (getD xs k d))
   unfolding every
   every-from f [] i t k h = absurd (not-suc-le-zero h)
   every-from f (x ∷ xs) i t zero h =
@@ -36,7 +38,8 @@ module _ {A : Type 0} (d : A) where
   unfolding listed
   listed-from f i zero k h = absurd (not-suc-le-zero h)
   listed-from f i (suc n) zero h = ap f (sym (add-zero i))
-  listed-from f i (suc n) (suc k) h = listed-from f (suc i) n k (le-of-suc-le-suc h) ∙ ap f (suc-add i k ∙ sym (add-suc i k))
+  listed-from f i (suc n) (suc k) h =
+      listed-from f (suc i) n k (le-of-suc-le-suc h) ∙ ap f (suc-add i k ∙ sym (add-suc i k))
 
   pub listed-at : (f : ℕ → A) (n k : ℕ) → k < n → getD (listed f 0 n) k d ≡ f k
   listed-at f n k h = listed-from f 0 n k h ∙ ap f (zero-add k)

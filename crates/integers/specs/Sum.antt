@@ -1,5 +1,5 @@
--- Finite sums f 0 + f 1 + .. + f (n - 1), and sums over a list, over whatever can be added: the integers and the naturals here.
--- One definition serves both, so that each law of sums is stated and proved once (proofs/Sums.antt).
+-- Finite sums f 0 + f 1 + .. + f (n - 1), and sums over a list, over whatever can be added: the integers and the
+-- naturals here. One definition serves both, so that each law of sums is stated and proved once (proofs/Sums.antt).
 use mathlib.Core.Bool.{Bool, false, _||_}
 use mathlib.Core.List.{List, [], _∷_}
 use Prim.Native.Nat.{ℕ, zero, suc, _+_, max}

@@ -1,5 +1,5 @@
--- The page's count of other fates is 0 for every block that the quantiser accepts: a level is its rounded magnitude, one less, or 0. It is what
--- demand 3 says of the call, in the page's words.
+-- The page's count of other fates is 0 for every block that the quantiser accepts: a level is its rounded magnitude,
+-- one less, or 0. It is what demand 3 says of the call, in the page's words.
 -- Assumes nothing.
 use mathlib.Core.Path.{_≡_, refl, ap}
 use mathlib.Core.Logic.{_⊎_, inl, inr, ⊎-elim}
@@ -45,7 +45,8 @@ module _ (c : Quant) (ok : quantVerdict c ≡ accepted) where
   abbrev left : ℕ → ℕ
   left p = natAbs (at (quantBuffer c) (placeOf c p))
 
-  allowed : (p : ℕ) → p < area c → (t : Bool) → isSkipped c ≡ t → (left p ≡ 0) ⊎ ((left p ≡ rounded c p) ⊎ (suc (left p) ≡ rounded c p))
+  allowed : (p : ℕ) → p < area c → (t : Bool) → isSkipped c ≡ t → (left p ≡ 0)
+      ⊎ ((left p ≡ rounded c p) ⊎ (suc (left p) ≡ rounded c p))
   allowed p h true e = inl (ap natAbs (skipped-is-cleared c ok e p h))
   allowed p h false e = ⊎-elim (λ z. inl (ap natAbs z)) (λ s. inr (s .1)) (level-zero-or-signed-m-or-m-1 c ok e p h)
 

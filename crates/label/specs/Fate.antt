@@ -1,4 +1,5 @@
--- What became of a coefficient, from its rounded magnitude m and the magnitude a of its level: the words that the page uses.
+-- What became of a coefficient, from its rounded magnitude m and the magnitude a of its level: the words that the page
+-- uses.
 use mathlib.Core.Bool.{cond}
 use Prim.Native.Nat.{ℕ, _+_, _≤_}
 use lib.Dec.{eqb}

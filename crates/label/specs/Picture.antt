@@ -1,4 +1,5 @@
--- The picture's bytes as residuals: 16 lines of 16 bytes and a newline, in four blocks, two beside and two below each other.
+-- The picture's bytes as residuals: 16 lines of 16 bytes and a newline, in four blocks, two beside and two below each
+-- other.
 use mathlib.Core.Path.{_≡_}
 use mathlib.Core.Bool.{cond}
 use mathlib.Core.List.{List}

@@ -77,7 +77,8 @@ pub fn one(fate: Fate) -> Tally
 impl Tally {
     pub fn with(self, more: Tally) -> Tally
         requires { ⌜ Most 4096 self × Most 4096 more ⌝ }
-        ensures { λ r. ⌜ (r .kept ≡ self .kept + more .kept) × (r .lowered ≡ self .lowered + more .lowered) × (r .dropped ≡ self .dropped + more .dropped) × (r .other ≡ self .other + more .other) ⌝ }
+        ensures { λ r. ⌜ (r .kept ≡ self .kept + more .kept) × (r .lowered ≡ self .lowered + more .lowered)
+            × (r .dropped ≡ self .dropped + more .dropped) × (r .other ≡ self .other + more .other) ⌝ }
     {
         Tally {
             kept: self.kept + more.kept,

@@ -1,5 +1,6 @@
-// A label's digit, coded block by block as a recorder would code it: each block of 8 by 8 beside its levels, and what was kept, lowered and
-// dropped of it. The picture comes from standard input, 16 lines of 16: # is ink, + an edge, anything else paper.
+// A label's digit, coded block by block as a recorder would code it: each block of 8 by 8 beside its levels, and what
+// was kept, lowered and dropped of it. The picture comes from standard input, 16 lines of 16: # is ink, + an edge,
+// anything else paper.
 use crate::fate::Tally;
 use crate::page::show_levels;
 use crate::page::show_tally;

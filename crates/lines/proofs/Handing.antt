@@ -1,5 +1,5 @@
--- What `next` hands out, from what its parts ensure: a line with its newline, a last line without one, and that a move of what is left
--- to the buffer's start does not matter.
+-- What `next` hands out, from what its parts ensure: a line with its newline, a last line without one, and that a move
+-- of what is left to the buffer's start does not matter.
 use Prim.Native.Nat.{ℕ, _+_, _-_, _≤_, _<_}
 use mathlib.Core.Path.{_≡_, refl, sym, ap, _∙_}
 use mathlib.Core.List.{List}
@@ -14,7 +14,8 @@ use Rattle.lines.specs.declared.Line.the-variants.{At, TooLong, End}
 use Rattle.lines.specs.Lines.{part, NoNewline, FirstNewline, Reaches, Within, Stands, Handed, front}
 
 -- a line whose newline was found, in the buffer as it is
-pub found-here : (buf : List ℕ) (c : Cursor) (end : ℕ) → Within c buf → FirstNewline buf (c .from) (c .have) end → end < c .have
+pub found-here : (buf : List ℕ) (c : Cursor) (end : ℕ) → Within c buf → FirstNewline buf (c .from) (c .have) end
+    → end < c .have
     → Stands buf c buf (c .from) end (record { from = end + 1; have = c .have })
 found-here buf c end w f h =
     record {
@@ -47,7 +48,8 @@ module _ (before after : List ℕ) (old end have : ℕ) (r : Reaches before old 
       }
 
   -- a last line without a newline, in a buffer that is not full
-  pub last-read : have ≤ end → have < length after → Stands before (front old) after 0 end (record { from = end; have = have })
+  pub last-read : have ≤ end → have < length after
+      → Stands before (front old) after 0 end (record { from = end; have = have })
   last-read h l =
       record {
         order = omega arith;
@@ -62,7 +64,8 @@ module _ (before after : List ℕ) (old end have : ℕ) (r : Reaches before old 
 
 -- what is left, moved to the front
 module _ (before moved : List ℕ) (c : Cursor) (order : c .from ≤ c .have)
-    (e : take (c .have - c .from) moved ≡ part before (c .from) (c .have)) (none : NoNewline before (c .from) (c .have)) where
+    (e : take (c .have - c .from) moved ≡ part before (c .from) (c .have))
+    (none : NoNewline before (c .from) (c .have)) where
   -- has no newline there either
   pub none-moved : NoNewline moved 0 (c .have - c .from)
   none-moved k l _ t =
@@ -75,7 +78,8 @@ module _ (before moved : List ℕ) (c : Cursor) (order : c .from ≤ c .have)
       ∙ t)
 
   -- and what is handed out from there is handed out from where it stood
-  pub handed-moved : (after : List ℕ) (line : Line) → Handed moved (front (c .have - c .from)) after line → Handed before c after line
+  pub handed-moved : (after : List ℕ) (line : Line) → Handed moved (front (c .have - c .from)) after line
+      → Handed before c after line
   handed-moved after (At from end rest) s =
       record {
         order = s .order;

@@ -1,5 +1,5 @@
--- A move to the front of a list, one element at a turn: the list with the first i elements from `from` on in front. An element that is
--- read has not been written over, since it stands behind those that are.
+-- A move to the front of a list, one element at a turn: the list with the first i elements from `from` on in front. An
+-- element that is read has not been written over, since it stands behind those that are.
 use Prim.Native.Nat.{ℕ, suc, _+_, _-_, _≤_, _<_}
 use mathlib.Core.Path.{_≡_, sym, ap, _∙_}
 use mathlib.Core.List.{List, _++_}
@@ -14,7 +14,8 @@ abbrev pub moved : List ℕ → ℕ → ℕ → List ℕ
 moved l from i = take i (drop from l) ++ drop i l
 
 -- the whole move
-pub moved-all : (l : List ℕ) (from have : ℕ) → from ≤ have → have ≤ length l → take (have - from) (moved l from (have - from)) ≡ part l from have
+pub moved-all : (l : List ℕ) (from have : ℕ) → from ≤ have → have ≤ length l
+    → take (have - from) (moved l from (have - from)) ≡ part l from have
 moved-all l from have h k =
     take-at (take (have - from) (drop from l)) (drop (have - from) l) (have - from)
     (length-take-le (have - from) (drop from l) (simp length-drop (omega arith)))

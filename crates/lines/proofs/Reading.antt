@@ -29,7 +29,8 @@ none-across buf a b e f g k l m = on (ltb k b) refl
 
 module _ {before buf : List ℕ} {old have : ℕ} (r : Reaches before old buf have have) where
   -- a read behind `have` changes nothing before it
-  pub still : (after : List ℕ) → length after ≡ length buf → take have after ≡ take have buf → Reaches before old after have have
+  pub still : (after : List ℕ) → length after ≡ length buf → take have after ≡ take have buf
+      → Reaches before old after have have
   still after n e =
       record {
         grown = r .grown;
@@ -59,5 +60,7 @@ module _ {before buf : List ℕ} {old have : ℕ} (r : Reaches before old buf ha
       }
 
   -- where it finds none, there is none in all
-  pub none-yet : {next end : ℕ} → FirstNewline buf have next end → next ≤ end → next ≤ length buf → Reaches before old buf next next
-  none-yet {next} {end} f h l = subst (λ (e : ℕ). Reaches before old buf e next) (le-antisymm (f .within) h) (onward f l)
+  pub none-yet : {next end : ℕ} → FirstNewline buf have next end → next ≤ end → next ≤ length buf
+      → Reaches before old buf next next
+  none-yet {next} {end} f h l =
+      subst (λ (e : ℕ). Reaches before old buf e next) (le-antisymm (f .within) h) (onward f l)

@@ -8,7 +8,8 @@ use Rattle.lines.specs.declared.Line.the-variants.{At, TooLong}
 use Rattle.lines.specs.Lines.{Within, Stands, Handed}
 
 module _ (before : List ℕ) (c : Cursor) (after : List ℕ) {line : Line} where
-  pub told-at : {from end : ℕ} {rest : Cursor} → line ≡ At from end rest → Handed before c after line → Stands before c after from end rest
+  pub told-at : {from end : ℕ} {rest : Cursor} → line ≡ At from end rest → Handed before c after line
+      → Stands before c after from end rest
   told-at e h = subst (λ (l : Line). Handed before c after l) e h
 
   pub told-too-long : {rest : Cursor} → line ≡ TooLong rest → Handed before c after line → Within rest after

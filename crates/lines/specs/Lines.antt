@@ -35,8 +35,8 @@ pub record Reaches (before : List ℕ) (old : ℕ) (after : List ℕ) (end have 
   pub kept : take old after ≡ take old before
   pub first : FirstNewline after 0 have end
 
--- a line from `from` up to `end`: what was left of the input before stands at its start, no newline stands in it, and what is left now
--- begins behind its newline; where it has none, nothing is left
+-- a line from `from` up to `end`: what was left of the input before stands at its start, no newline stands in it, and
+-- what is left now begins behind its newline; where it has none, nothing is left
 pub record Stands (before : List ℕ) (c : Cursor) (after : List ℕ) (from end : ℕ) (rest : Cursor) : Type 0 where
   pub order : from ≤ end
   pub held : end ≤ length after
@@ -47,10 +47,12 @@ pub record Stands (before : List ℕ) (c : Cursor) (after : List ℕ) (from end 
   pub next : ((getD after end 0 ≡ 10) × (rest .from ≡ end + 1)) ⊎ ((rest .from ≡ end) × (rest .have ≡ end))
   pub left : Within rest after
 
--- what is left behind a line that was passed over: it begins behind the first newline of what was read last, or nothing is left
+-- what is left behind a line that was passed over: it begins behind the first newline of what was read last, or nothing
+-- is left
 pub record PassedOver (rest : Cursor) (buf : List ℕ) : Type 0 where
   pub left : Within rest buf
-  pub next : ((end : ℕ) × (rest .from ≡ end + 1) × FirstNewline buf 0 (rest .have) end) ⊎ ((rest .from ≡ 0) × (rest .have ≡ 0))
+  pub next : ((end : ℕ) × (rest .from ≡ end + 1) × FirstNewline buf 0 (rest .have) end)
+      ⊎ ((rest .from ≡ 0) × (rest .have ≡ 0))
 
 -- what is handed out. No line that stood whole in the buffer is passed over, and nothing is left where the input ends.
 abbrev pub Handed : List ℕ → Cursor → List ℕ → Line → Type 0

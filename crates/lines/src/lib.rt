@@ -77,7 +77,8 @@ struct Filled {
     have: usize,
 }
 
-// Reads behind the first `old` bytes, which hold no newline, until a newline comes, the buffer is full or the input ends.
+// Reads behind the first `old` bytes, which hold no newline, until a newline comes, the buffer is full or the input
+// ends.
 fn fill(buf: &mut [u8], old: usize) -> Filled
     requires { ⌜ (old ≤ length (now buf)) × NoNewline (now buf) 0 old ⌝ }
     ensures { λ r. ⌜ Reaches (now (buf .entry)) old (now (buf .exit)) (r .end) (r .have) ⌝ }
@@ -98,8 +99,8 @@ fn fill(buf: &mut [u8], old: usize) -> Filled
     Filled { end: have, have }
 }
 
-// What is left of the input behind a line that is too long. The loop counts its turns down, from a number that no run uses up:
-// each turn but the last reads a byte or more.
+// What is left of the input behind a line that is too long. The loop counts its turns down, from a number that no run
+// uses up: each turn but the last reads a byte or more.
 fn pass_over(buf: &mut [u8]) -> Cursor
     ensures { λ r. ⌜ PassedOver r (now (buf .exit)) ⌝ }
 {
@@ -152,7 +153,8 @@ fn read_line(buf: &mut [u8], old: usize) -> Line
     }
 }
 
-// The next line. What is left is moved to the buffer's start only where it holds no newline: before a read, and not for each line.
+// The next line. What is left is moved to the buffer's start only where it holds no newline: before a read, and not for
+// each line.
 pub fn next(buf: &mut [u8], c: Cursor) -> Line
     requires { ⌜ Within c (now buf) ⌝ }
     ensures { λ r. ⌜ Handed (now (buf .entry)) c (now (buf .exit)) r ⌝ }

@@ -1,5 +1,6 @@
--- P1 and P3 to P12 as one theorem over the definitions of the calls: refusal, count, price, levels. Those of small blocks are
--- computed beside their definitions; those of side 32 here, each by itself, so that no two are in memory at once.
+-- P1 and P3 to P12 as one theorem over the definitions of the calls: refusal, count, price, levels. Those of small
+-- blocks are computed beside their definitions; those of side 32 here, each by itself, so that no two are in memory at
+-- once.
 -- Assumes nothing.
 use mathlib.Core.Path.{_≡_, refl}
 use mathlib.Core.Bool.{true, false}
@@ -17,7 +18,8 @@ use Rattle.quantise.proofs.Numbers.{p, parts, at, flat, usual}
 
 -- side 32, every cost entry 32768: `count` coefficients c in front
 abbrev large : ℕ → Float → ℕ → ℕ → Quant
-large qp d count c = called (replicate count (p c) ++ replicate (1024 - count) (p 0)) 5 Y (at qp d) true true (flat 32768)
+large qp d count c =
+    called (replicate count (p c) ++ replicate (1024 - count) (p 0)) 5 Y (at qp d) true true (flat 32768)
 
 -- 8192
 abbrev most : Float
@@ -68,4 +70,13 @@ pub numbers :
     × (quantAnswer (large 4 most 1 8192) ≡ refusedWith 8 0)
     × (quantAnswer (large 4 (parts 0) 64 16384) ≡ coded 64 0)
     × (quantAnswer (large 4 (parts 0) 65 16384) ≡ refusedWith 9 0)
-numbers = (transform.numbers, quantise.numbers, p10-passes, p10-refused, p11-passes, p11-refused, p12-passes, p12-refused)
+numbers = (
+  transform.numbers,
+  quantise.numbers,
+  p10-passes,
+  p10-refused,
+  p11-passes,
+  p11-refused,
+  p12-passes,
+  p12-refused,
+)

@@ -29,18 +29,22 @@ module _ (before : List ℕ) (at most : ℕ) where
 
 -- ---- one text behind another
 behind : (f t u rest : List ℕ) (r : ℕ) → length (f ++ t) ≡ r
-    → take r (f ++ (t ++ rest)) ++ (u ++ drop (r + length u) (f ++ (t ++ rest))) ≡ f ++ ((t ++ u) ++ drop (length u) rest)
+    → take r (f ++ (t ++ rest)) ++ (u ++ drop (r + length u) (f ++ (t ++ rest))) ≡ f
+    ++ ((t ++ u) ++ drop (length u) rest)
 behind f t u rest r e =
     rw (← e, ← append-assoc f t rest, take-append-seam (f ++ t) rest, drop-append-add (f ++ t) rest (length u))
-    (append-assoc f t (u ++ drop (length u) rest) ∙ ap (λ (l : List ℕ). f ++ l) (sym (append-assoc t u (drop (length u) rest))))
+    (append-assoc f t (u ++ drop (length u) rest)
+    ∙ ap (λ (l : List ℕ). f ++ l) (sym (append-assoc t u (drop (length u) rest))))
 
-pub put-both : (before t u mid after : List ℕ) (at m r n s most : ℕ) → at + length t ≤ length before → length t + length u ≤ most
+pub put-both : (before t u mid after : List ℕ) (at m r n s most : ℕ) → at + length t ≤ length before
+    → length t + length u ≤ most
     → Put before at t m mid r → Put mid r u n after s → Put before at (t ++ u) most after s
 put-both before t u mid after at m r n s most h k p q =
     let long : length (t ++ u) ≡ length t + length u = length-append t u in
     let end : at + length t + length u ≡ at + length (t ++ u) = omega arith in
     let met : length (take at before ++ t) ≡ r =
-    length-append (take at before) t ∙ ap (λ (j : ℕ). j + length t) (length-take-le at before (omega arith)) ∙ sym (p .next) in
+    length-append (take at before) t ∙ ap (λ (j : ℕ). j + length t) (length-take-le at before (omega arith))
+    ∙ sym (p .next) in
     record {
       next = omega (arith, p .next, q .next);
       few = omega arith;
@@ -53,7 +57,8 @@ put-both before t u mid after at m r n s most h k p q =
     }
 
 -- ---- a byte behind a text
-kept : (before t after : List ℕ) (at m r : ℕ) → at + length t ≤ length before → Put before at t m after r → length after ≡ length before
+kept : (before t after : List ℕ) (at m r : ℕ) → at + length t ≤ length before → Put before at t m after r
+    → length after ≡ length before
 kept before t after at m r h p = omega (arith, simp (length-append, length-take, length-drop) at (ap length (p .holds)))
 
 pub put-last : (before t mid : List ℕ) (at d m r most : ℕ) → at + length t < length before → length t < most
@@ -65,12 +70,15 @@ put-last before t mid at d m r most h k p =
 -- ---- the first bytes of a word
 module _ (before word : List ℕ) (at i : ℕ) where
   pub put-next : (mid : List ℕ) → at + length word ≤ length before → i < length word
-      → Put before at (take i word) (length word) mid (at + i) → Put before at (take (i + 1) word) (length word) (set mid (at + i) (getD word i 0)) (at + (i + 1))
+      → Put before at (take i word) (length word) mid (at + i)
+      → Put before at (take (i + 1) word) (length word) (set mid (at + i) (getD word i 0)) (at + (i + 1))
   put-next mid h k p =
       let long : length (take i word) ≡ i = length-take-le i word (omega arith) in
       let end : at + suc i ≡ at + i + 1 = omega arith in
       rw (add-one i, take-suc word i 0, end)
-      (put-last before (take i word) mid at (getD word i 0) (length word) (at + i) (length word) (omega arith) (omega arith) p)
+      (put-last before (take i word) mid at (getD word i 0) (length word) (at + i) (length word) (omega arith)
+      (omega arith) p)
 
-  pub put-whole : (after : List ℕ) → length word ≤ i → Put before at (take i word) (length word) after (at + i) → Put before at word (length word) after (at + i)
+  pub put-whole : (after : List ℕ) → length word ≤ i → Put before at (take i word) (length word) after (at + i)
+      → Put before at word (length word) after (at + i)
   put-whole after h p = rw (take-all i word h) at p

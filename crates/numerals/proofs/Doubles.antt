@@ -1,4 +1,5 @@
--- Which patterns of 64 bits are a NaN's: those above an infinity's, with the sign's bit dropped. There is one NaN, which 0 / 0 makes.
+-- Which patterns of 64 bits are a NaN's: those above an infinity's, with the sign's bit dropped. There is one NaN,
+-- which 0 / 0 makes.
 -- Assumes nothing.
 use mathlib.Core.Path.{_≡_, refl, sym, subst, _∙_}
 use mathlib.Core.Bool.{Bool, true, false, not, true≢false}
@@ -19,7 +20,8 @@ one-nan (inf s) e = absurd (true≢false (sym e))
 one-nan (fin s m x) e = absurd (true≢false (sym e))
 
 module _ (bits : ℕ) where
-  pub a-nan : 9218868437227405312 < bits % 9223372036854775808 → div binary64 (ofBits binary64 0) (ofBits binary64 0) ≡ ofBits binary64 bits
+  pub a-nan : 9218868437227405312 < bits % 9223372036854775808 → div binary64 (ofBits binary64 0) (ofBits binary64 0)
+      ≡ ofBits binary64 bits
   a-nan h = zero-by-zero ∙ sym (one-nan _ (sym (nanBits-is binary64 bits) ∙ nanBits-above binary64 bits ∙ lt-ltb _ _ h))
 
   pub no-nan : bits % 9223372036854775808 ≤ 9218868437227405312 → T (not (nanBits binary64 bits))

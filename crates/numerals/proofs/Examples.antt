@@ -13,7 +13,8 @@ zero-printed : printed 0 ≡ 48 ∷ []
 unfolding printed
 zero-printed = refl
 
-largest-printed : printed (2 ^ 64 - 1) ≡ 49 ∷ 56 ∷ 52 ∷ 52 ∷ 54 ∷ 55 ∷ 52 ∷ 52 ∷ 48 ∷ 55 ∷ 51 ∷ 55 ∷ 48 ∷ 57 ∷ 53 ∷ 53 ∷ 49 ∷ 54 ∷ 49 ∷ 53 ∷ []
+largest-printed : printed (2 ^ 64 - 1) ≡ 49 ∷ 56 ∷ 52 ∷ 52 ∷ 54 ∷ 55 ∷ 52 ∷ 52 ∷ 48 ∷ 55 ∷ 51 ∷ 55 ∷ 48 ∷ 57 ∷ 53 ∷ 53
+    ∷ 49 ∷ 54 ∷ 49 ∷ 53 ∷ []
 unfolding printed
 largest-printed = refl
 
@@ -22,11 +23,13 @@ unfolding printedSample
 lowest-printed = refl
 
 -- 18446744073709551616, 007, 00 and an empty word
-one-too-large : naturalUpTo (2 ^ 64 - 1) (49 ∷ 56 ∷ 52 ∷ 52 ∷ 54 ∷ 55 ∷ 52 ∷ 52 ∷ 48 ∷ 55 ∷ 51 ∷ 55 ∷ 48 ∷ 57 ∷ 53 ∷ 53 ∷ 49 ∷ 54 ∷ 49 ∷ 54 ∷ []) ≡ naturals.Malformed
+one-too-large : naturalUpTo (2 ^ 64 - 1) (49 ∷ 56 ∷ 52 ∷ 52 ∷ 54 ∷ 55 ∷ 52 ∷ 52 ∷ 48 ∷ 55 ∷ 51 ∷ 55 ∷ 48 ∷ 57 ∷ 53 ∷ 53
+    ∷ 49 ∷ 54 ∷ 49 ∷ 54 ∷ []) ≡ naturals.Malformed
 unfolding naturalUpTo
 one-too-large = refl
 
-zeros-in-front : (naturalUpTo 9 (48 ∷ 48 ∷ 55 ∷ []) ≡ naturals.Malformed) × (naturalUpTo 9 (48 ∷ 48 ∷ []) ≡ naturals.Malformed)
+zeros-in-front : (naturalUpTo 9 (48 ∷ 48 ∷ 55 ∷ []) ≡ naturals.Malformed)
+    × (naturalUpTo 9 (48 ∷ 48 ∷ []) ≡ naturals.Malformed)
 unfolding naturalUpTo
 zeros-in-front = (refl, refl)
 
@@ -46,7 +49,8 @@ unfolding sampleOf
 samples-read = (refl, refl, refl, refl, refl, refl, refl)
 
 -- 3f50000000000000, 3F50000000000000 and 3f5
-bits-read : (bitsOf (51 ∷ 102 ∷ 53 ∷ 48 ∷ 48 ∷ 48 ∷ 48 ∷ 48 ∷ 48 ∷ 48 ∷ 48 ∷ 48 ∷ 48 ∷ 48 ∷ 48 ∷ 48 ∷ []) ≡ naturals.Is 0x3f50_0000_0000_0000)
+bits-read : (bitsOf (51 ∷ 102 ∷ 53 ∷ 48 ∷ 48 ∷ 48 ∷ 48 ∷ 48 ∷ 48 ∷ 48 ∷ 48 ∷ 48 ∷ 48 ∷ 48 ∷ 48 ∷ 48 ∷ [])
+    ≡ naturals.Is 0x3f50_0000_0000_0000)
     × (bitsOf (51 ∷ 70 ∷ 53 ∷ 48 ∷ 48 ∷ 48 ∷ 48 ∷ 48 ∷ 48 ∷ 48 ∷ 48 ∷ 48 ∷ 48 ∷ 48 ∷ 48 ∷ 48 ∷ []) ≡ naturals.Malformed)
     × (bitsOf (51 ∷ 102 ∷ 53 ∷ []) ≡ naturals.Malformed)
 unfolding bitsOf

@@ -49,7 +49,8 @@ module _ (v : ℕ) (w : List ℕ) (i : ℕ) where
   unfolding hexRead hexDigits
   no-digit h k = rw (drop-cons w i 0 h, le-ltb (hexDigit (getD w i 0)) 16 k) refl
 
-  pub digit-next : i < length w → hexDigit (getD w i 0) ≤ 15 → hexRead v (drop i w) ≡ hexRead (16 * v + hexDigit (getD w i 0)) (drop (i + 1) w)
+  pub digit-next : i < length w → hexDigit (getD w i 0) ≤ 15
+      → hexRead v (drop i w) ≡ hexRead (16 * v + hexDigit (getD w i 0)) (drop (i + 1) w)
   unfolding hexRead hexDigits hexFrom
   digit-next h k = rw (drop-cons w i 0 h, lt-ltb (hexDigit (getD w i 0)) 16 (omega arith), add-one) refl
 

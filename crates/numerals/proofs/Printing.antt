@@ -38,7 +38,8 @@ printed-more n h =
 
 pub few-digits : (k n : ℕ) → n < 10 ^ suc k → length (printed n) ≤ suc k
 few-digits zero n h = rw (printed-one n h) (omega arith)
-few-digits (suc k) n h = go (ltb n 10) refl (λ t. few-digits k (n / 10) (div-lt-iff-lt-mul (omega arith) .1 (rw pow-suc at h)))
+few-digits (suc k) n h =
+    go (ltb n 10) refl (λ t. few-digits k (n / 10) (div-lt-iff-lt-mul (omega arith) .1 (rw pow-suc at h)))
   where
     go : (b : Bool) → ltb n 10 ≡ b → (10 ≤ n → length (printed (n / 10)) ≤ suc k) → length (printed n) ≤ suc (suc k)
     go true e t = rw (printed-one n (ltb-true n 10 e)) (omega arith)
@@ -53,4 +54,5 @@ module _ (before : List ℕ) (at n : ℕ) where
       → Put before at (printed (n / 10)) 20 mid end → Put before at (printed n) 20 (set mid end (48 + n % 10)) (end + 1)
   put-more mid end h k l p =
       let small : length (printed (n / 10)) ≤ 19 = few-digits 18 (n / 10) (omega arith) in
-      rw (printed-more n k) (put-last before (printed (n / 10)) mid at (48 + n % 10) 20 end 20 (omega arith) (omega arith) p)
+      rw (printed-more n k) (put-last before (printed (n / 10)) mid at (48 + n % 10) 20 end 20 (omega arith)
+      (omega arith) p)

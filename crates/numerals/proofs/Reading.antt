@@ -61,7 +61,8 @@ module _ (limit : ℕ) where
     unfolding readFrom digits
     no-digit e = rw (drop-cons w i 0 h, e) refl
 
-    pub digit-next : isDigit (getD w i 0) ≡ true → readFrom limit v (drop i w) ≡ readFrom limit (10 * v + (getD w i 0 - 48)) (drop (i + 1) w)
+    pub digit-next : isDigit (getD w i 0) ≡ true → readFrom limit v (drop i w)
+        ≡ readFrom limit (10 * v + (getD w i 0 - 48)) (drop (i + 1) w)
     unfolding readFrom digits valueFrom
     digit-next e = rw (drop-cons w i 0 h, e, add-one) refl
 
@@ -69,7 +70,11 @@ module _ (limit : ℕ) where
     unfolding readFrom digits valueFrom
     past-limit k =
         let p = at-least (10 * v + (getD w i 0 - 48)) (drop (suc i) w) in
-        rw (drop-cons w i 0 h, lt-leb (valueFrom (10 * v + (getD w i 0 - 48)) (drop (suc i) w)) limit (omega arith), and-false) refl
+        rw (
+          drop-cons w i 0 h,
+          lt-leb (valueFrom (10 * v + (getD w i 0 - 48)) (drop (suc i) w)) limit (omega arith),
+          and-false,
+        ) refl
 
   pub all-read : (v : ℕ) (w : List ℕ) (i : ℕ) → length w ≤ i → v ≤ limit → readFrom limit v (drop i w) ≡ Is v
   unfolding readFrom digits valueFrom

@@ -1,4 +1,5 @@
--- A printed number is read back as itself, and a word that reads as a number is what printing that number gives: no number has two texts.
+-- A printed number is read back as itself, and a word that reads as a number is what printing that number gives: no
+-- number has two texts.
 -- Assumes nothing.
 use mathlib.Core.Path.{_≡_, refl, sym, ap, subst, _∙_}
 use mathlib.Core.Bool.{Bool, true, false, not, _&&_, _||_, cond, true≢false}
@@ -17,7 +18,8 @@ use Rattle.integers.proofs.Tests.{both}
 use Rattle.numerals.specs.declared.number.Natural.{Natural}
 use Rattle.numerals.specs.declared.number.Natural.the-variants as naturals
 use Rattle.numerals.specs.declared.number.Sample.the-variants as samples
-use Rattle.numerals.specs.Number.{isDigit, digits, isEmpty, natural, valueFrom, valueOf, naturalUpTo, negativeOf, positiveOf, sampleOf, printed, printedSample}
+use Rattle.numerals.specs.Number.{isDigit, digits, isEmpty, natural, valueFrom, valueOf, naturalUpTo, negativeOf}
+use Rattle.numerals.specs.Number.{positiveOf, sampleOf, printed, printedSample}
 use Rattle.numerals.proofs.Reading.{a-digit}
 use Rattle.numerals.proofs.Printing.{printed-one, printed-more}
 use Rattle.numerals.proofs.Signs.{plain}
@@ -153,7 +155,8 @@ one-text (b ∷ c ∷ w) h =
     let q = both (isDigit b) (digits (c ∷ w)) (p .1) in
     let d = a-digit-is b (q .0) in
     let more = eqb-false b 48 (not-true (eqb b 48) (p .0)) in
-    same-text (10 * 0 + (b - 48)) (c ∷ w) (above-zero b (d .0) more) (q .1) ∙ ap (λ (l : List ℕ). l ++ (c ∷ w)) (first-digit b (q .0))
+    same-text (10 * 0 + (b - 48)) (c ∷ w) (above-zero b (d .0) more) (q .1)
+    ∙ ap (λ (l : List ℕ). l ++ (c ∷ w)) (first-digit b (q .0))
   where
     above-zero : (b : ℕ) → 48 ≤ b → (b ≡ 48 → ⊥) → 1 ≤ 10 * 0 + (b - 48)
     above-zero b h k = omega arith
@@ -162,7 +165,8 @@ pub read-text : (limit n : ℕ) (w : List ℕ) → naturalUpTo limit w ≡ natur
 unfolding naturalUpTo
 read-text limit n w e = go (natural w) (leb (valueOf w) limit) refl e
   where
-    go : (a b : Bool) → natural w ≡ a → cond (a && b) (naturals.Is (valueOf w)) naturals.Malformed ≡ naturals.Is n → w ≡ printed n
+    go : (a b : Bool) → natural w ≡ a → cond (a && b) (naturals.Is (valueOf w)) naturals.Malformed ≡ naturals.Is n
+        → w ≡ printed n
     go true true q p = let same : valueOf w ≡ n = cc in sym (one-text w q) ∙ ap printed same
     go true false q p = absurd (let no : _≡_ {A = ℕ} 0 1 = cc in let none : ⊥ = omega arith in none)
     go false b q p = absurd (let no : _≡_ {A = ℕ} 0 1 = cc in let none : ⊥ = omega arith in none)
@@ -186,7 +190,8 @@ sample-read-back (negsuc n) f =
     let small : n < 32768 = f .sfits in
     ap negativeOf (read-back 32768 (suc n) (omega arith)) ∙ rw (eqb·suc-zero n) refl
 
-minus-text : (w : List ℕ) (z : ℤ) (r : Natural) → naturalUpTo 32768 w ≡ r → negativeOf r ≡ samples.Is z → 45 ∷ w ≡ printedSample z
+minus-text : (w : List ℕ) (z : ℤ) (r : Natural) → naturalUpTo 32768 w ≡ r → negativeOf r ≡ samples.Is z
+    → 45 ∷ w ≡ printedSample z
 unfolding printedSample negativeOf
 minus-text w z (naturals.Is zero) e p = absurd (let no : _≡_ {A = ℕ} 0 1 = cc in let none : ⊥ = omega arith in none)
 minus-text w z (naturals.Is (suc m)) e p =
@@ -195,7 +200,8 @@ minus-text w z (naturals.Is (suc m)) e p =
     subst (λ (y : ℤ). 45 ∷ w ≡ printedSample y) number (ap (λ (l : List ℕ). 45 ∷ l) (read-text 32768 (suc m) w e))
 minus-text w z naturals.Malformed e p = absurd (let no : _≡_ {A = ℕ} 0 1 = cc in let none : ⊥ = omega arith in none)
 
-plain-text : (w : List ℕ) (z : ℤ) (r : Natural) → naturalUpTo 32767 w ≡ r → positiveOf r ≡ samples.Is z → w ≡ printedSample z
+plain-text : (w : List ℕ) (z : ℤ) (r : Natural) → naturalUpTo 32767 w ≡ r → positiveOf r ≡ samples.Is z
+    → w ≡ printedSample z
 unfolding printedSample positiveOf
 plain-text w z (naturals.Is n) e p =
     let number : pos n ≡ z = cc in subst (λ (y : ℤ). w ≡ printedSample y) number (read-text 32767 n w e)
@@ -206,7 +212,8 @@ unfolding sampleOf
 sample-text [] z e = absurd (let no : _≡_ {A = ℕ} 0 1 = cc in let none : ⊥ = omega arith in none)
 sample-text (b ∷ w) z e = go (eqb b 45) refl e
   where
-    go : (t : Bool) → eqb b 45 ≡ t → cond t (negativeOf (naturalUpTo 32768 w)) (positiveOf (naturalUpTo 32767 (b ∷ w))) ≡ samples.Is z
+    go : (t : Bool) → eqb b 45 ≡ t → cond t (negativeOf (naturalUpTo 32768 w)) (positiveOf (naturalUpTo 32767 (b ∷ w)))
+        ≡ samples.Is z
         → b ∷ w ≡ printedSample z
     go true q p = ap (λ (c : ℕ). c ∷ w) (eqb-true b 45 q) ∙ minus-text w z (naturalUpTo 32768 w) refl p
     go false q p = plain-text (b ∷ w) z (naturalUpTo 32767 (b ∷ w)) refl p

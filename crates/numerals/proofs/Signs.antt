@@ -27,11 +27,13 @@ unfolding sampleOf
 nothing [] e = refl
 nothing (b ∷ w) e = absurd (let no : ⊥ = omega arith in no)
 
-pub behind-minus : (w : List ℕ) → (length w ≡ 0 → ⊥) → getD w 0 0 ≡ 45 → sampleOf w ≡ negativeOf (naturalUpTo 32768 (take (length w - 1) (drop 1 w)))
+pub behind-minus : (w : List ℕ) → (length w ≡ 0 → ⊥) → getD w 0 0 ≡ 45
+    → sampleOf w ≡ negativeOf (naturalUpTo 32768 (take (length w - 1) (drop 1 w)))
 unfolding sampleOf
 behind-minus [] h e = absurd (h refl)
 behind-minus (b ∷ w) h e =
-    rw (eq-eqb b 45 e) (ap (λ (l : List ℕ). negativeOf (naturalUpTo 32768 l)) (sym (take-all (length (b ∷ w) - 1) w (omega arith))))
+    rw (eq-eqb b 45 e) (ap (λ (l : List ℕ). negativeOf (naturalUpTo 32768 l))
+    (sym (take-all (length (b ∷ w) - 1) w (omega arith))))
 
 pub plain : (w : List ℕ) → (length w ≡ 0 → ⊥) → (getD w 0 0 ≡ 45 → ⊥) → sampleOf w ≡ positiveOf (naturalUpTo 32767 w)
 unfolding sampleOf
@@ -67,7 +69,8 @@ module _ (n : ℕ) (h : n ≡ 0 → ⊥) (k : n ≤ 32768) where
   minus-fits = rw (toZ-pos w16 {n = n - 1} (omega arith), less) (record { sfits = omega arith })
 
   pub a-negative : samples.Is (toZ w16 (ofZ w16 (negsuc 0 -ℤ toZ w16 (n - 1)))) ≡ negativeOf (naturals.Is n)
-  a-negative = ap samples.Is (toZ-ofZ minus-fits ∙ rw (toZ-pos w16 {n = n - 1} (omega arith), less) refl) ∙ sym (negative n h)
+  a-negative = ap samples.Is (toZ-ofZ minus-fits ∙ rw (toZ-pos w16 {n = n - 1} (omega arith), less) refl)
+      ∙ sym (negative n h)
 
 pub no-positive : positiveOf naturals.Malformed ≡ samples.Malformed
 unfolding positiveOf
@@ -86,10 +89,12 @@ module _ (before : List ℕ) (at n : ℕ) (after : List ℕ) (r : ℕ) (small : 
   few : length (printed n) ≤ 5
   few = few-digits 4 n (omega arith)
 
-  plain-put : (z : ℤ) → ltZ z (pos 0) ≡ false → n ≡ natAbs z → Put before at (printed n) 20 after r → Put before at (printedSample z) 6 after r
+  plain-put : (z : ℤ) → ltZ z (pos 0) ≡ false → n ≡ natAbs z → Put before at (printed n) 20 after r
+      → Put before at (printedSample z) 6 after r
   unfolding printedSample
   plain-put (pos m) t e p =
-      subst (λ (k : ℕ). Put before at (printed k) 6 after r) e (record { next = p .next; few = omega (arith, few); holds = p .holds })
+      subst (λ (k : ℕ). Put before at (printed k) 6 after r) e
+      (record { next = p .next; few = omega (arith, few); holds = p .holds })
   plain-put (negsuc m) t e p = absurd (true≢false t)
 
   minus-put : (z : ℤ) → ltZ z (pos 0) ≡ true → n ≡ natAbs z → at < length before
@@ -98,7 +103,8 @@ module _ (before : List ℕ) (at n : ℕ) (after : List ℕ) (r : ℕ) (small : 
   minus-put (pos m) t e h p = absurd (let q = ltb-true m 0 t in let no : ⊥ = omega arith in no)
   minus-put (negsuc m) t e h p =
       subst (λ (k : ℕ). Put before at (45 ∷ printed k) 6 after r) e
-      (put-both before (45 ∷ []) (printed n) (set before at 45) after at 1 (at + 1) 20 r 6 (omega arith) (omega (arith, few))
+      (put-both before (45 ∷ []) (printed n) (set before at 45) after at 1 (at + 1) 20 r 6 (omega arith)
+      (omega (arith, few))
       (put-byte before at 1 45 h (omega arith)) p)
 
   -- the sample as the machine has it
@@ -106,7 +112,8 @@ module _ (before : List ℕ) (at n : ℕ) (after : List ℕ) (r : ℕ) (small : 
     size : n ≡ natAbs z
     size = rw (toZ-ofZ {w = w16} {z = z} f) at e
 
-    pub put-plain : ltZ (toZ w16 (ofZ w16 z)) (pos 0) ≡ false → Put before at (printed n) 20 after r → Put before at (printedSample z) 6 after r
+    pub put-plain : ltZ (toZ w16 (ofZ w16 z)) (pos 0) ≡ false → Put before at (printed n) 20 after r
+        → Put before at (printedSample z) 6 after r
     put-plain t p = plain-put z (rw (toZ-ofZ {w = w16} {z = z} f) at t) size p
 
     pub put-minus : ltZ (toZ w16 (ofZ w16 z)) (pos 0) ≡ true → at < length before

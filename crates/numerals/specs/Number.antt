@@ -1,5 +1,5 @@
--- Numbers as words of a line: which words are numbers, what they are worth, and how a number is printed. Bytes are ASCII codes: 48 to 57
--- are the digits, 45 is `-`, 97 to 102 are `a` to `f`.
+-- Numbers as words of a line: which words are numbers, what they are worth, and how a number is printed. Bytes are
+-- ASCII codes: 48 to 57 are the digits, 45 is `-`, 97 to 102 are `a` to `f`.
 use mathlib.Core.Bool.{Bool, true, false, not, _&&_, _||_, cond}
 use mathlib.Core.List.{List, [], _∷_, _++_}
 use Prim.Native.Nat.{ℕ, zero, suc, _+_, _-_, _*_, _/_, _%_}
@@ -76,7 +76,8 @@ unfolding hexDigits hexFrom
 bitsOf w = cond (eqb (length w) 16 && hexDigits w) (naturals.Is (hexFrom 0 w)) naturals.Malformed
 
 -- ---- printing
--- the digits of n, the most significant first and no 0 in front: those of a tenth of it, and then the last; at most `most` of them
+-- the digits of n, the most significant first and no 0 in front: those of a tenth of it, and then the last; at most
+-- `most` of them
 unfoldable pub printedIn : ℕ → ℕ → List ℕ
 printedIn zero n = []
 printedIn (suc most) n =

@@ -1,5 +1,6 @@
--- The best of a set: none of the set has a smaller value, and at equal value none comes before it in an order. The walk's cut
--- and the cheapest block of all are both such, since each is the first of least value in a list that stands in order.
+-- The best of a set: none of the set has a smaller value, and at equal value none comes before it in an order. The
+-- walk's cut and the cheapest block of all are both such, since each is the first of least value in a list that stands
+-- in order.
 -- Assumes nothing.
 use mathlib.Core.Path.{_≡_, refl}
 use mathlib.Core.Logic.{_⊎_, inl, inr, ⊎-elim}

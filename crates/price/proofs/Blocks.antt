@@ -1,5 +1,6 @@
--- All blocks over the places: those whose magnitudes are each allowed at their place. The list of specs/Cheapest.antt holds these
--- and no others, in dictionary order, so the first of least price in it is the first of least price in that order.
+-- All blocks over the places: those whose magnitudes are each allowed at their place. The list of specs/Cheapest.antt
+-- holds these and no others, in dictionary order, so the first of least price in it is the first of least price in that
+-- order.
 -- Assumes nothing.
 use mathlib.Core.Path.{_≡_, refl, sym, ap}
 use mathlib.Core.Logic.{_⊎_, inl, inr, ⊎-elim}
@@ -17,7 +18,8 @@ abbrev pub Led : (ℕ → Type 0) → (List ℕ → Type 0) → List ℕ → Typ
 Led A K [] = ⊥
 Led A K (a ∷ k) = A a × K k
 
-pub led-each : {A : ℕ → Type 0} {K : List ℕ → Type 0} (P : List ℕ → Type 0) → ((a : ℕ) (k : List ℕ) → A a → K k → P (a ∷ k))
+pub led-each : {A : ℕ → Type 0} {K : List ℕ → Type 0} (P : List ℕ → Type 0)
+    → ((a : ℕ) (k : List ℕ) → A a → K k → P (a ∷ k))
     → (l : List ℕ) → Led A K l → P l
 led-each P h [] s = absurd s
 led-each P h (a ∷ k) s = h a k (s .0) (s .1)
@@ -38,7 +40,8 @@ block-length r [] (a ∷ ls) b = absurd b
 block-length r (p ∷ ps) [] b = absurd b
 block-length r (p ∷ ps) (a ∷ ls) b = ap suc (block-length r ps ls (b .1))
 
-pub block-allowed : (r : Rule) (ps ls : List ℕ) → Block r ps ls → (k : ℕ) → k < length ps → Allowed (r .top (getD ps k 0)) (getD ls k 0)
+pub block-allowed : (r : Rule) (ps ls : List ℕ) → Block r ps ls → (k : ℕ) → k < length ps
+    → Allowed (r .top (getD ps k 0)) (getD ls k 0)
 block-allowed r [] ls b k h = absurd (omega arith)
 block-allowed r (p ∷ ps) [] b k h = absurd b
 block-allowed r (p ∷ ps) (a ∷ ls) b zero h = b .0
@@ -49,7 +52,8 @@ pub allowed-block : (r : Rule) (ps ls : List ℕ) → length ls ≡ length ps
 allowed-block r [] [] e h = tt
 allowed-block r [] (a ∷ ls) e h = absurd (omega arith)
 allowed-block r (p ∷ ps) [] e h = absurd (omega arith)
-allowed-block r (p ∷ ps) (a ∷ ls) e h = (h 0 (omega arith), allowed-block r ps ls (omega arith) (λ k l. h (suc k) (omega arith)))
+allowed-block r (p ∷ ps) (a ∷ ls) e h =
+    (h 0 (omega arith), allowed-block r ps ls (omega arith) (λ k l. h (suc k) (omega arith)))
 
 -- the empty block is one, and comes before each
 pub empty-block : (r : Rule) (ps : List ℕ) → Block r ps (emptyBlock ps)
@@ -114,11 +118,13 @@ module _ (a : ℕ) (cs : List (List ℕ)) where
   in-behind [] l s = s
   in-behind (b ∷ bs) l s = inr (in-behind bs l s)
 
-  front-ordered : (bs : List (List ℕ)) → Ordered Before bs → Ordered Before cs → ((k l : List ℕ) → In l cs → Before (a ∷ k) l)
+  front-ordered : (bs : List (List ℕ)) → Ordered Before bs → Ordered Before cs
+      → ((k l : List ℕ) → In l cs → Before (a ∷ k) l)
       → Ordered Before (front bs)
   front-ordered [] o q h = q
   front-ordered (b ∷ bs) o q h = (
-    λ l s. ⊎-elim (λ i. led-each (Before (a ∷ b)) (λ c k e j. same (sym e) (o .0 k j)) l i) (λ i. h b l i) (front-or-behind bs l s),
+    λ l s. ⊎-elim (λ i. led-each (Before (a ∷ b)) (λ c k e j. same (sym e) (o .0 k j)) l i) (λ i. h b l i)
+        (front-or-behind bs l s),
     front-ordered bs (o .1) q h,
   )
 
@@ -161,4 +167,5 @@ in-blocks r (p ∷ ps) (a ∷ ls) b =
 pub blocks-ordered : (r : Rule) (ps : List ℕ) → Ordered Before (blocks r ps)
 unfolding blocks
 blocks-ordered r [] = (λ l s. absurd s, tt)
-blocks-ordered r (p ∷ ps) = fronted-ordered (blocks r ps) (allowed (r .top p)) (allowed-ordered (r .top p)) (blocks-ordered r ps)
+blocks-ordered r (p ∷ ps) =
+    fronted-ordered (blocks r ps) (allowed (r .top p)) (allowed-ordered (r .top p)) (blocks-ordered r ps)

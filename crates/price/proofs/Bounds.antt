@@ -1,6 +1,6 @@
--- How large the running totals become, so that code can hold them: a step adds at most what a 0 costs there and one more flag,
--- what is left of D stays in the total, and the best price only falls. The price written is at most the empty block's, and
--- the squared error at most the price. Assumes nothing.
+-- How large the running totals become, so that code can hold them: a step adds at most what a 0 costs there and one
+-- more flag, what is left of D stays in the total, and the best price only falls. The price written is at most the
+-- empty block's, and the squared error at most the price. Assumes nothing.
 use mathlib.Core.Path.{_≡_, refl}
 use mathlib.Core.Logic.{inl}
 use mathlib.Core.Bool.{Bool, true, false, cond, not, _&&_}
@@ -41,7 +41,8 @@ module _ (r : Rule) (R : ℕ) (free : (z : Bool) → r .rate z 0 ≤ R) where
       (omega (arith, b), omega (arith, b, chosen-at-most r z p, free z, flag-at-most r a))
 
   pub walk-within : (n : ℕ) (w : Totals) (ps : List ℕ) (i : ℕ) → uncoded r ps ≤ w .base
-      → (uncoded r (drop i ps) ≤ (walk r n w (take i ps)) .base) × ((walk r n w (take i ps)) .base ≤ w .base + i * (R + r .more))
+      → (uncoded r (drop i ps) ≤ (walk r n w (take i ps)) .base)
+      × ((walk r n w (take i ps)) .base ≤ w .base + i * (R + r .more))
   unfolding uncoded walk
   walk-within n w ps zero h = (h, omega arith)
   walk-within n w [] (suc i) h = (h, omega arith)
@@ -95,13 +96,19 @@ error-rest r z (a ∷ ls) (p ∷ ps) h = go (size ls) refl (error-rest r (isZero
     go zero q i = rw q (omega (arith, error-uncoded r ls ps (omega arith) q))
     go (suc n) q i = rw q (omega arith)
 
-pub squared-error-at-most-price : (r : Rule) (ls ps : List ℕ) → length ls ≡ length ps → squaredError r ls ps ≤ price r ls ps
+pub squared-error-at-most-price : (r : Rule) (ls ps : List ℕ) → length ls ≡ length ps
+    → squaredError r ls ps ≤ price r ls ps
 squared-error-at-most-price r ls ps h = rw (price-recursive r ls ps h) (go (size ls) refl)
   where
-    go : (n : ℕ) → size ls ≡ n → squaredError r ls ps ≤ cond (allZero ls) (uncoded r ps + r .empty) (r .coded + rest r false ls ps)
+    go : (n : ℕ) → size ls ≡ n
+        → squaredError r ls ps ≤ cond (allZero ls) (uncoded r ps + r .empty) (r .coded + rest r false ls ps)
     go zero q = rw q (omega (arith, error-uncoded r ls ps h q))
     go (suc n) q = rw q (omega (arith, error-rest r false ls ps h))
 
 pub written-error-at-most-empty : (r : Rule) (ps : List ℕ) → squaredError r (written r ps) ps ≤ uncoded r ps + r .empty
 written-error-at-most-empty r ps =
-    omega (arith, squared-error-at-most-price r (written r ps) ps (written-length r ps), written-price-at-most-empty r ps)
+    omega (
+      arith,
+      squared-error-at-most-price r (written r ps) ps (written-length r ps),
+      written-price-at-most-empty r ps,
+    )

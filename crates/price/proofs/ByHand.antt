@@ -1,5 +1,5 @@
--- The cheapest block, over prices small enough to add up by hand: at each tie the first in dictionary order, and once a block that
--- is cheaper than the walk's. Assumes nothing.
+-- The cheapest block, over prices small enough to add up by hand: at each tie the first in dictionary order, and once a
+-- block that is cheaper than the walk's. Assumes nothing.
 use mathlib.Core.Path.{_≡_, refl}
 use mathlib.Core.Bool.{Bool, cond}
 use mathlib.Core.List.{List, [], _∷_}

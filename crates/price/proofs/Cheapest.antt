@@ -1,5 +1,6 @@
--- What the cheapest block of all is: its magnitudes are allowed, no block whose magnitudes are allowed is cheaper, and of those
--- as cheap it is the first in dictionary order. These leave one block only. It is never dearer than the walk's.
+-- What the cheapest block of all is: its magnitudes are allowed, no block whose magnitudes are allowed is cheaper, and
+-- of those as cheap it is the first in dictionary order. These leave one block only. It is never dearer than the
+-- walk's.
 -- Assumes nothing.
 use mathlib.Core.Path.{_≡_}
 use mathlib.Core.Logic.{inl, inr}
@@ -21,7 +22,10 @@ module _ (r : Rule) (ps : List ℕ) where
   unfolding cheapest
   cheapest-best =
       best-of-same out (λ ls b. inr (in-blocks r ps ls b))
-      (first-least-best _ dictionary (emptyBlock ps) (blocks r ps) (λ ls s. empty-first r ps ls (blocks-in r ps ls s), blocks-ordered r ps))
+      (first-least-best _ dictionary (emptyBlock ps) (blocks r ps) (
+        λ ls s. empty-first r ps ls (blocks-in r ps ls s),
+        blocks-ordered r ps,
+      ))
     where
       out : (ls : List ℕ) → In ls (emptyBlock ps ∷ blocks r ps) → Block r ps ls
       out ls (inl e) = rw e (empty-block r ps)
@@ -40,7 +44,8 @@ module _ (r : Rule) (ps : List ℕ) where
   none-cheaper ls b = cheapest-best .wins ls b .no-dearer
 
   -- at equal price the first in dictionary order
-  pub none-earlier : (ls : List ℕ) → Block r ps ls → price r ls ps ≡ price r (cheapest r ps) ps → Before (cheapest r ps) ls
+  pub none-earlier : (ls : List ℕ) → Block r ps ls → price r ls ps ≡ price r (cheapest r ps) ps
+      → Before (cheapest r ps) ls
   none-earlier ls b = cheapest-best .wins ls b .no-later
 
   -- and no other block is such
@@ -52,4 +57,5 @@ module _ (r : Rule) (ps : List ℕ) where
 
   pub never-dearer-than-the-walk : price r (cheapest r ps) ps ≤ price r (written r ps) ps
   never-dearer-than-the-walk =
-      none-cheaper (written r ps) (allowed-block r ps (written r ps) (written-length r ps) (written-zero-or-m-or-m-1 r ps))
+      none-cheaper (written r ps) (allowed-block r ps (written r ps) (written-length r ps)
+      (written-zero-or-m-or-m-1 r ps))

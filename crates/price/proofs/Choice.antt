@@ -1,5 +1,5 @@
--- The walk's choice at a place: it is allowed, none that is allowed costs less, and at a tie 0 goes before m, and m before
--- m - 1. These three leave one magnitude only, so the magnitudes walked are the only ones chosen like that.
+-- The walk's choice at a place: it is allowed, none that is allowed costs less, and at a tie 0 goes before m, and m
+-- before m - 1. These three leave one magnitude only, so the magnitudes walked are the only ones chosen like that.
 -- Assumes nothing.
 use mathlib.Core.Path.{_≡_, refl, sym, ap, subst, _∙_}
 use mathlib.Core.Logic.{_⊎_, inl, inr, ⊎-elim}
@@ -24,8 +24,10 @@ unfolding cheaper
 cheaper-is f a b = go (ltb (f b) (f a)) refl
   where
     go : (t : Bool) → ltb (f b) (f a) ≡ t → Cheaper f a b (cond t b a)
-    go true e = let h = ltb-true (f b) (f a) e in record { first = omega arith; second = omega arith; which = inr (refl, h) }
-    go false e = let h = ltb-false (f b) (f a) e in record { first = omega arith; second = omega arith; which = inl refl }
+    go true e = let h =
+        ltb-true (f b) (f a) e in record { first = omega arith; second = omega arith; which = inr (refl, h) }
+    go false e = let h =
+        ltb-false (f b) (f a) e in record { first = omega arith; second = omega arith; which = inl refl }
 
 -- c is the cheapest magnitude allowed where m is the rounded one
 pub record Cheapest (f : ℕ → ℕ) (m c : ℕ) : Type 0 where
@@ -123,5 +125,6 @@ cheapest-walked r z [] (p ∷ ps) e h = absurd (omega arith)
 cheapest-walked r z (a ∷ ls) [] e h = absurd (omega arith)
 cheapest-walked r z (a ∷ ls) (p ∷ ps) e h =
     let q = cheapest-unique (cost r z p) (r .top p) a (chosen r z p) (h 0 (omega arith)) (chosen-cheapest r z p) in
-    let i = cheapest-walked r (isZero a) ls ps (omega arith) (λ k g. rw (before-in-tail z a ls k) at (h (suc k) (omega arith))) in
+    let i = cheapest-walked r (isZero a) ls ps (omega arith)
+    (λ k g. rw (before-in-tail z a ls k) at (h (suc k) (omega arith))) in
     subst (λ (c : ℕ). a ∷ ls ≡ c ∷ walked r (isZero c) ps) q (ap (λ (l : List ℕ). a ∷ l) i)

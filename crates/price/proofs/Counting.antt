@@ -45,11 +45,13 @@ nonzeros-snoc [] a = nonzeros-cons a [] ∙ omega arith
 nonzeros-snoc (zero ∷ ls) a = nonzeros-snoc ls a
 nonzeros-snoc (suc b ∷ ls) a = omega (arith, nonzeros-snoc ls a)
 
-pub nonzeros-filled : (ls : List ℕ) (i a : ℕ) → i < length ls → nonzeros (take (i + 1) (set ls i a)) ≡ nonzeros (take i ls) + ones a
+pub nonzeros-filled : (ls : List ℕ) (i a : ℕ) → i < length ls → nonzeros (take (i + 1) (set ls i a))
+    ≡ nonzeros (take i ls) + ones a
 nonzeros-filled ls i a h = rw (add-one, take-suc-set ls i a h) (nonzeros-snoc (take i ls) a)
 
 -- what is left from place n on
-pub nonzeros-next : (ls : List ℕ) (n : ℕ) → n < length ls → nonzeros (drop n ls) ≡ ones (getD ls n 0) + nonzeros (drop (n + 1) ls)
+pub nonzeros-next : (ls : List ℕ) (n : ℕ) → n < length ls
+    → nonzeros (drop n ls) ≡ ones (getD ls n 0) + nonzeros (drop (n + 1) ls)
 nonzeros-next ls n h = rw (add-one, drop-cons ls n 0 h) (nonzeros-cons (getD ls n 0) (drop (suc n) ls))
 
 pub some-left : (ls : List ℕ) (n : ℕ) → 0 < nonzeros (drop n ls) → n < length ls

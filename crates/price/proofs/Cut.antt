@@ -1,5 +1,5 @@
--- The cut taken: it may be made, no cut that may be made is cheaper, and none before it is as cheap. These leave one cut
--- only. The cuts that may be made are listed from the first to the last; nothing is asked of a price.
+-- The cut taken: it may be made, no cut that may be made is cheaper, and none before it is as cheap. These leave one
+-- cut only. The cuts that may be made are listed from the first to the last; nothing is asked of a price.
 -- Assumes nothing.
 use mathlib.Core.Path.{_≡_, refl, sym, subst}
 use mathlib.Core.Logic.{inl, inr}
@@ -51,7 +51,8 @@ ends-ordered n [] = tt
 ends-ordered n (zero ∷ ls) = ends-ordered (suc n) ls
 ends-ordered n (suc a ∷ ls) = (λ k s. omega (arith, ends-behind (suc n) ls k s .2), ends-ordered (suc n) ls)
 
-pub cut-best : (r : Rule) (ps : List ℕ) → (let ls = walked r false ps in Best (λ k. price r (cutAt k ls) ps) _≤_ (Cut ls) (cutOf r ps))
+pub cut-best : (r : Rule) (ps : List ℕ)
+    → (let ls = walked r false ps in Best (λ k. price r (cutAt k ls) ps) _≤_ (Cut ls) (cutOf r ps))
 unfolding cutOf
 cut-best r ps =
     best-of-same out into (first-least-best _ smaller-first 0 (ends 0 ls) (λ k s. omega arith, ends-ordered 0 ls))

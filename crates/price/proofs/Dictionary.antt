@@ -1,4 +1,5 @@
--- Dictionary order of lists of one length: of the blocks as cheap as each other the first in it is taken. Assumes nothing.
+-- Dictionary order of lists of one length: of the blocks as cheap as each other the first in it is taken. Assumes
+-- nothing.
 use mathlib.Core.Path.{_≡_, refl, _∙_}
 use mathlib.Core.Bool.{Bool, true, false}
 use mathlib.Core.List.{List, [], _∷_}

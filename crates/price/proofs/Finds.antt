@@ -1,5 +1,6 @@
--- What a search may hold of a set of blocks, if any is in it: the least value, and the first block in dictionary order that has
--- it. The laws by which it is held of a larger set: of two sets, at one more price, and with one more magnitude in front.
+-- What a search may hold of a set of blocks, if any is in it: the least value, and the first block in dictionary order
+-- that has it. The laws by which it is held of a larger set: of two sets, at one more price, and with one more
+-- magnitude in front.
 -- Assumes nothing.
 use mathlib.Core.Path.{_≡_, refl}
 use mathlib.Core.Logic.{_⊎_, inl, inr, ⊎-elim}
@@ -30,7 +31,8 @@ module _ {f : List ℕ → ℕ} {S T : List ℕ → Type 0} where
       dearer : (k : List ℕ) → f l < f k → Wins f Before l k
       dearer k q = record { no-dearer = omega arith; no-later = λ e. absurd (omega arith) }
 
-  best-first : {j : List ℕ} → Best f Before S j → ((k : List ℕ) → T k → Wins f Before j k) → Best f Before (Either S T) j
+  best-first : {j : List ℕ} → Best f Before S j → ((k : List ℕ) → T k → Wins f Before j k)
+      → Best f Before (Either S T) j
   best-first h g = record { member = inl (h .member); wins = λ k s. ⊎-elim (h .wins k) (g k) s }
 
   -- the second only where it is strictly less, since the first comes before all of T
@@ -55,12 +57,14 @@ pub finds-same : {f : List ℕ → ℕ} {S T : List ℕ → Type 0} {x : Least} 
 finds-same to from (nothing h) = nothing (λ k s. h k (from k s))
 finds-same to from (first h p) = first (best-of-same to from h) p
 
-pub finds-plus : {f w : List ℕ → ℕ} {S : List ℕ → Type 0} {x : Least} {l : List ℕ} (c : ℕ) → ((k : List ℕ) → S k → w k ≡ c + f k)
+pub finds-plus : {f w : List ℕ → ℕ} {S : List ℕ → Type 0} {x : Least} {l : List ℕ} (c : ℕ)
+    → ((k : List ℕ) → S k → w k ≡ c + f k)
     → Finds f S x l → Finds w S (plus c x) l
 unfolding plus
 finds-plus c e (nothing h) = nothing h
 finds-plus {f} {w} {l = l} c e (first {x = y} h p) =
-    first {x = c + y} (record { member = h .member; wins = λ k s. dearer k (e k s) (h .wins k s) }) (omega (arith, here))
+    first {x = c + y} (record { member = h .member; wins = λ k s. dearer k (e k s) (h .wins k s) })
+    (omega (arith, here))
   where
     here : w l ≡ c + f l
     here = e l (h .member)
@@ -85,7 +89,8 @@ finds-led {f} {w} {g} {A} {K} {a} {l = l} e i (first {x = y} h p) =
     here : w (a ∷ l) ≡ g a + f l
     here = e a l (i .member) (h .member)
 
-    dearer : (b : ℕ) (k : List ℕ) → w (b ∷ k) ≡ g b + f k → Wins g _≤_ a b → Wins f Before l k → Wins w Before (a ∷ l) (b ∷ k)
+    dearer : (b : ℕ) (k : List ℕ) → w (b ∷ k) ≡ g b + f k → Wins g _≤_ a b → Wins f Before l k
+        → Wins w Before (a ∷ l) (b ∷ k)
     dearer b k q m n =
         record {
           no-dearer = omega (arith, here);

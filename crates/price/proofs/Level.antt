@@ -1,5 +1,5 @@
--- Laws of one coefficient's numbers: a level has its magnitude and its coefficient's sign; a distortion without integers,
--- as code works it out; and how large the error of magnitude 0 can be.
+-- Laws of one coefficient's numbers: a level has its magnitude and its coefficient's sign; a distortion without
+-- integers, as code works it out; and how large the error of magnitude 0 can be.
 -- Assumes nothing.
 use mathlib.Core.Path.{_≡_, refl, ap, _∙_}
 use mathlib.Core.Logic.{_⊎_, inl, inr}
@@ -41,7 +41,8 @@ module _ (b e L a : ℕ) where
   unfolding distortion
   distortion-below h = ap square (error-below h)
 
-  error-negative : (n : ℕ) → L < a * 2 ^ b → suc (a * 2 ^ b - suc L) * e ≡ suc n → natAbs (error b e L a) ≡ suc (n / 2 ^ 20)
+  error-negative : (n : ℕ) → L < a * 2 ^ b → suc (a * 2 ^ b - suc L) * e ≡ suc n
+      → natAbs (error b e L a) ≡ suc (n / 2 ^ 20)
   unfolding error
   error-negative n h q = rw (lt-ltb L (a * 2 ^ b) h, q)
 
@@ -73,4 +74,6 @@ error-within b e q u c h =
 
 -- so it is for E = floor(2^(28+l)/q)
 pub error-bound : (b l q : ℕ) (c : ℤ) → natAbs (error b (2 ^ (28 + l) / q) (scaled q c) 0) ≤ natAbs c * 2 ^ (8 + l)
-error-bound b l q c = error-within b (2 ^ (28 + l) / q) q (2 ^ (8 + l)) c (omega (arith, mul-div-le (2 ^ (28 + l)) q, pow-add 2 28 l, pow-add 2 8 l))
+error-bound b l q c =
+    error-within b (2 ^ (28 + l) / q) q (2 ^ (8 + l)) c
+    (omega (arith, mul-div-le (2 ^ (28 + l)) q, pow-add 2 28 l, pow-add 2 8 l))

@@ -1,5 +1,5 @@
--- Places at which m is 0 may be taken for others at which it is 0: every block's price changes by the same, so the cheapest block stays the
--- cheapest. Code keeps nothing of such places. Assumes nothing.
+-- Places at which m is 0 may be taken for others at which it is 0: every block's price changes by the same, so the
+-- cheapest block stays the cheapest. Code keeps nothing of such places. Assumes nothing.
 use mathlib.Core.Path.{_≡_, refl, sym, ap, subst, _∙_}
 use mathlib.Core.Logic.{_⊎_, inl, inr}
 use mathlib.Core.Bool.{Bool, true, false, cond}
@@ -49,7 +49,8 @@ module _ (r : Rule) where
   lighter-block (p ∷ ps) (q ∷ qs) (a ∷ ls) h b =
       (subst (λ (m : ℕ). Allowed m a) (same-top p q (h .0)) (b .0), lighter-block ps qs ls (h .1) (b .1))
 
-  lighter-cost : (z : Bool) (p q a : ℕ) → Stands p q → Allowed (r .top p) a → cost r z p a + r .dist q 0 ≡ cost r z q a + r .dist p 0
+  lighter-cost : (z : Bool) (p q a : ℕ) → Stands p q → Allowed (r .top p) a
+      → cost r z p a + r .dist q 0 ≡ cost r z q a + r .dist p 0
   unfolding cost
   lighter-cost z p q a (inl e) m = rw e
   lighter-cost z p q a (inr h) m = rw (only-zero (r .top p) a (h .0) m) (omega arith)
@@ -75,9 +76,13 @@ module _ (r : Rule) where
       behind false f i = rw f (omega (arith, i f))
 
   -- the price changes by what the uncoded squares do
-  pub lighter-price : (ps qs ls : List ℕ) → Lighter ps qs → Block r ps ls → price r ls ps + uncoded r qs ≡ price r ls qs + uncoded r ps
+  pub lighter-price : (ps qs ls : List ℕ) → Lighter ps qs → Block r ps ls → price r ls ps + uncoded r qs
+      ≡ price r ls qs + uncoded r ps
   lighter-price ps qs ls h b =
-      rw (price-recursive r ls ps (block-length r ps ls b), price-recursive r ls qs (block-length r qs ls (lighter-block ps qs ls h b)))
+      rw (
+        price-recursive r ls ps (block-length r ps ls b),
+        price-recursive r ls qs (block-length r qs ls (lighter-block ps qs ls h b)),
+      )
       (go (allZero ls) refl)
     where
       go : (t : Bool) → allZero ls ≡ t
@@ -92,5 +97,11 @@ module _ (r : Rule) where
       let a = cheapest-allowed r ps in
       let back : (ls : List ℕ) → Block r qs ls → Block r ps ls = λ ls b. lighter-block qs ps ls (turned ps qs h) b in
       cheapest-unique r qs c (lighter-block ps qs c h a)
-      (λ k b. omega (arith, none-cheaper r ps k (back k b), lighter-price ps qs k h (back k b), lighter-price ps qs c h a))
-      (λ k b e. none-earlier r ps k (back k b) (omega (arith, e, lighter-price ps qs k h (back k b), lighter-price ps qs c h a)))
+      (λ k b. omega (
+        arith,
+        none-cheaper r ps k (back k b),
+        lighter-price ps qs k h (back k b),
+        lighter-price ps qs c h a,
+      ))
+      (λ k b e. none-earlier r ps k (back k b)
+      (omega (arith, e, lighter-price ps qs k h (back k b), lighter-price ps qs c h a)))

@@ -64,7 +64,8 @@ module _ (f : ℕ → ℕ) (r : Rule) where
       let x = step r n w p in
       let ls = walked r (isZero a) ps in
       let t = w .base - r .dist p 0 + cost r z p a in
-      let s : Advanced f n w x a = advanced n w a t (t + r .last) b (λ g. omega (arith, prices-here n c z a p ls ps h g)) in
+      let s : Advanced f n w x a = advanced n w a t (t + r .last) b
+      (λ g. omega (arith, prices-here n c z a p ls ps h g)) in
       let d = step-base r n w p c (uncoded r ps) e in
       let i = follow (suc n) x ps (c + (cost r z p a + flag r a)) d (s .best) (prices-later n c z a p ls ps h) in
       (i .0, i .1 ∙ s .cut ls)

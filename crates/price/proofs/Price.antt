@@ -1,5 +1,6 @@
--- The price by recursion over the places, which is how proofs go along a block, and that it is the price of specs/Price.antt
--- wherever there is a level for each place. Then the price of a cut, from its first place to the later ones.
+-- The price by recursion over the places, which is how proofs go along a block, and that it is the price of
+-- specs/Price.antt wherever there is a level for each place. Then the price of a cut, from its first place to the later
+-- ones.
 -- Assumes nothing.
 use mathlib.Core.Path.{_≡_, refl, ap, _∙_}
 use mathlib.Core.Bool.{Bool, false, cond}
@@ -17,12 +18,14 @@ use Rattle.price.specs.OnePass.{flag}
 unfoldable pub rest : Rule → Bool → List ℕ → List ℕ → ℕ
 rest r z [] ps = 0
 rest r z (a ∷ ls) [] = 0
-rest r z (a ∷ ls) (p ∷ ps) = cost r z p a + cond (allZero ls) (r .last + uncoded r ps) (flag r a + rest r (isZero a) ls ps)
+rest r z (a ∷ ls) (p ∷ ps) =
+    cost r z p a + cond (allZero ls) (r .last + uncoded r ps) (flag r a + rest r (isZero a) ls ps)
 
 -- the same in the words of the price, for a last nonzero level at place n
 abbrev Worded : Rule → Bool → List ℕ → List ℕ → ℕ → Type 0
 Worded r z ls ps n =
-    rest r z ls ps ≡ costs r z (take (suc n) ls) ps + uncoded r (drop (suc n) ps) + nonzeros (take n ls) * r .more + r .last
+    rest r z ls ps ≡ costs r z (take (suc n) ls) ps + uncoded r (drop (suc n) ps) + nonzeros (take n ls) * r .more + r
+    .last
 
 flags : (r : Rule) (a : ℕ) (ls : List ℕ) (n : ℕ)
     → nonzeros (take (suc n) (a ∷ ls)) * r .more ≡ flag r a + nonzeros (take n ls) * r .more
@@ -30,13 +33,15 @@ unfolding nonzeros
 flags r zero ls n = omega arith
 flags r (suc a) ls n = omega (arith, suc-mul (nonzeros (take n ls)) (r .more))
 
-rest-worded : (r : Rule) (z : Bool) (ls ps : List ℕ) (n : ℕ) → length ls ≡ length ps → size ls ≡ suc n → Worded r z ls ps n
+rest-worded : (r : Rule) (z : Bool) (ls ps : List ℕ) (n : ℕ) → length ls ≡ length ps → size ls ≡ suc n
+    → Worded r z ls ps n
 unfolding size rest costs uncoded nonzeros
 rest-worded r z [] ps n h e = absurd (omega arith)
 rest-worded r z (a ∷ ls) [] n h e = absurd (omega arith)
 rest-worded r z (a ∷ ls) (p ∷ ps) n h e = go a (size ls) n refl e (λ y m. rest-worded r y ls ps m (omega arith))
   where
-    go : (a k n : ℕ) → size ls ≡ k → inFront a (size ls) ≡ suc n → ((y : Bool) (m : ℕ) → size ls ≡ suc m → Worded r y ls ps m)
+    go : (a k n : ℕ) → size ls ≡ k → inFront a (size ls) ≡ suc n
+        → ((y : Bool) (m : ℕ) → size ls ≡ suc m → Worded r y ls ps m)
         → Worded r z (a ∷ ls) (p ∷ ps) n
     go a (suc k) n q e f =
         let i : n ≡ suc k = omega (arith, rw q at e) in
@@ -51,7 +56,8 @@ pub price-recursive : (r : Rule) (ls ps : List ℕ) → length ls ≡ length ps
 unfolding price
 price-recursive r ls ps h = go (size ls) refl
   where
-    go : (n : ℕ) → size ls ≡ n → price r ls ps ≡ cond (isZero (size ls)) (uncoded r ps + r .empty) (r .coded + rest r false ls ps)
+    go : (n : ℕ) → size ls ≡ n
+        → price r ls ps ≡ cond (isZero (size ls)) (uncoded r ps + r .empty) (r .coded + rest r false ls ps)
     go zero e = rw e
     go (suc n) e = rw e (omega (arith, rest-worded r false ls ps n h e))
 
@@ -81,7 +87,8 @@ unfolding rest cutAt
 rest-here r z a ls p ps = rw (size-empty ls)
 
 pub rest-later : (r : Rule) (z : Bool) (a : ℕ) (ls : List ℕ) (p : ℕ) (ps : List ℕ) (k : ℕ) → 0 < getD ls k 0
-    → rest r z (cutAt (suc (suc k)) (a ∷ ls)) (p ∷ ps) ≡ cost r z p a + (flag r a + rest r (isZero a) (cutAt (suc k) ls) ps)
+    → rest r z (cutAt (suc (suc k)) (a ∷ ls)) (p ∷ ps)
+    ≡ cost r z p a + (flag r a + rest r (isZero a) (cutAt (suc k) ls) ps)
 unfolding rest cutAt
 rest-later r z a ls p ps k h = rw (size-cut ls k h)
 

@@ -1,6 +1,6 @@
--- Demand 3, of the definitions of specs/: what each magnitude walked and written is, that the block written is the cheapest of
--- the walk's cuts, the earliest at a tie, and that this leaves no second outcome. That one pass finds it, and reports its price,
--- is in proofs/OnePass.antt. Assumes nothing.
+-- Demand 3, of the definitions of specs/: what each magnitude walked and written is, that the block written is the
+-- cheapest of the walk's cuts, the earliest at a tie, and that this leaves no second outcome. That one pass finds it,
+-- and reports its price, is in proofs/OnePass.antt. Assumes nothing.
 use mathlib.Core.Path.{_≡_, refl, _∙_}
 use mathlib.Core.Logic.{_⊎_, inl, inr, ⊎-elim}
 use mathlib.Core.Bool.{Bool, true, false}
@@ -43,7 +43,8 @@ module _ (r : Rule) (ps : List ℕ) where
   walked-unique ls = cheapest-walked r false ls ps
 
   -- the block written is the walk, cut where a cut may be made
-  pub written-is-the-walk-cut : (written r ps ≡ cutAt (cutOf r ps) (walked r false ps)) × Cut (walked r false ps) (cutOf r ps)
+  pub written-is-the-walk-cut : (written r ps ≡ cutAt (cutOf r ps) (walked r false ps))
+      × Cut (walked r false ps) (cutOf r ps)
   unfolding written
   written-is-the-walk-cut = (refl, cut-best r ps .member)
 
@@ -58,10 +59,12 @@ module _ (r : Rule) (ps : List ℕ) where
   pub written-zero-or-m-or-m-1 : (k : ℕ) → k < length ps → Allowed (r .top (getD ps k 0)) (getD (written r ps) k 0)
   unfolding written
   written-zero-or-m-or-m-1 k h =
-      ⊎-elim (λ e. inl e) (λ e. rw e (walked-cheapest r false ps k h .allowed)) (cut-level (cutOf r ps) (walked r false ps) k)
+      ⊎-elim (λ e. inl e) (λ e. rw e (walked-cheapest r false ps k h .allowed))
+      (cut-level (cutOf r ps) (walked r false ps) k)
 
   -- the block written is no dearer than the empty block or the walk cut behind any nonzero level
-  pub written-no-dearer : (k : ℕ) → Cut (walked r false ps) k → price r (written r ps) ps ≤ price r (cutAt k (walked r false ps)) ps
+  pub written-no-dearer : (k : ℕ) → Cut (walked r false ps) k
+      → price r (written r ps) ps ≤ price r (cutAt k (walked r false ps)) ps
   unfolding written
   written-no-dearer k h = cut-best r ps .wins k h .no-dearer
 
@@ -76,7 +79,8 @@ module _ (r : Rule) (ps : List ℕ) where
       → (let ls = walked r false ps in let f : ℕ → ℕ = λ k. price r (cutAt k ls) ps in
       Cut ls c → ((k : ℕ) → Cut ls k → f c ≤ f k) → ((k : ℕ) → Cut ls k → k < c → f c < f k) → c ≡ cutOf r ps)
   cut-unique c made low first =
-      best-unique f smaller-first (record { member = made; wins = λ k h. record { no-dearer = low k h; no-later = go k h (ltb k c) refl } })
+      best-unique f smaller-first
+      (record { member = made; wins = λ k h. record { no-dearer = low k h; no-later = go k h (ltb k c) refl } })
       (cut-best r ps)
     where
       f : ℕ → ℕ

@@ -1,5 +1,5 @@
--- What accepted cost tables have: every entry is in range, and so a rate is at most one largest entry for each unit of the
--- magnitude and two more. Later bounds of prices rest on it.
+-- What accepted cost tables have: every entry is in range, and so a rate is at most one largest entry for each unit of
+-- the magnitude and two more. Later bounds of prices rest on it.
 -- Assumes nothing.
 use mathlib.Core.Path.{_≡_}
 use mathlib.Core.Bool.{Bool, false, _||_}

@@ -1,6 +1,6 @@
--- The search finds the cheapest block of all, and its price. Along the places, from the last to the first, and in both states:
--- what it holds is the least that is still to be paid by a block with a nonzero level, and what it reads off is the first block in
--- dictionary order that pays no more. Assumes nothing.
+-- The search finds the cheapest block of all, and its price. Along the places, from the last to the first, and in both
+-- states: what it holds is the least that is still to be paid by a block with a nonzero level, and what it reads off is
+-- the first block in dictionary order that pays no more. Assumes nothing.
 use mathlib.Core.Path.{_≡_, refl, sym, subst, _∙_}
 use mathlib.Core.Logic.{_⊎_, inl, inr, ⊎-elim}
 use mathlib.Core.Bool.{Bool, true, false, cond, true≢false}
@@ -11,7 +11,8 @@ use Rattle.price.specs.Rule.{Rule, Allowed, isZero, cost}
 use Rattle.price.specs.Price.{uncoded, inFront, size, allZero, price}
 use Rattle.price.specs.Walk.{cheaper, firstLeast}
 use Rattle.price.specs.Cheapest.{emptyBlock, cheapest}
-use Rattle.price.specs.Search.{Least, none, some, plus, under, lesser, Ahead, after, ending, goingOn, goesOn, behind, offer}
+use Rattle.price.specs.Search.{Least, none, some, plus, under, lesser, Ahead, after, ending, goingOn, goesOn}
+use Rattle.price.specs.Search.{behind, offer}
 use Rattle.price.specs.Search.{withZero, withLevel, takenBy, leastBy, taken, ahead, readOff}
 use Rattle.price.specs.Search.{codedPrice, emptyPrice, isCoded, found, foundPrice}
 use Rattle.price.proofs.Best.{Best, best-unique, best-of-same, first-least-best}
@@ -77,7 +78,11 @@ finds-all {f} {w} r ps e c h g =
         record {
           member = ended;
           wins = λ k s.
-              record { no-dearer = omega (arith, alike k s, alike (emptyBlock ps) ended); no-later = λ q. empty-first r ps k (s .0) };
+              record {
+                no-dearer = omega (arith, alike k s, alike (emptyBlock ps) ended);
+                no-later = λ q. empty-first r
+                    ps k (s .0);
+              };
         }
 
 -- ---- one place: a 0 in front of a block with a nonzero level, or a nonzero magnitude in front of any
@@ -91,11 +96,13 @@ nonzero a h (inr s) = s
 offer-best : (r : Rule) (z : Bool) (p n : ℕ) → Best (cost r z p) _≤_ (Level (suc n)) (offer r z p (suc n))
 unfolding offer cheaper firstLeast
 offer-best r z p zero =
-    best-of-same (λ a s. (allowed-in 1 a (inr s), allowed-ordered 1 .0 a s)) (λ a h. nonzero a (h .1) (in-allowed 1 a (h .0)))
+    best-of-same (λ a s. (allowed-in 1 a (inr s), allowed-ordered 1 .0 a s))
+    (λ a h. nonzero a (h .1) (in-allowed 1 a (h .0)))
     (first-least-best (cost r z p) smaller-first 1 [] (λ a s. absurd s, tt))
 offer-best r z p (suc n) =
     let m = suc (suc n) in
-    best-of-same (λ a s. (allowed-in m a (inr s), allowed-ordered m .0 a s)) (λ a h. nonzero a (h .1) (in-allowed m a (h .0)))
+    best-of-same (λ a s. (allowed-in m a (inr s), allowed-ordered m .0 a s))
+    (λ a h. nonzero a (h .1) (in-allowed m a (h .0)))
     (first-least-best (cost r z p) smaller-first (suc n) (m ∷ [])
     (λ a s. ⊎-elim (λ e. omega arith) (λ e. absurd e) s, (λ a s. absurd s, tt)))
 
@@ -116,7 +123,8 @@ module _ (r : Rule) (z : Bool) (p : ℕ) (ps : List ℕ)
   zero-finds = finds-led priced only (later true)
     where
       only : Best (cost r z p) _≤_ (λ a. a ≡ 0) 0
-      only = record { member = refl; wins = λ a e. rw e (record { no-dearer = omega arith; no-later = λ q. omega arith }) }
+      only = record
+          { member = refl; wins = λ a e. rw e (record { no-dearer = omega arith; no-later = λ q. omega arith }) }
 
       priced : (a : ℕ) (k : List ℕ) → a ≡ 0 → Coded r ps k → value (a ∷ k) ≡ cost r z p a + rest r true k ps
       priced zero k e s = rw (s .1) (omega arith)
@@ -132,7 +140,8 @@ module _ (r : Rule) (z : Bool) (p : ℕ) (ps : List ℕ)
   behind-finds (suc a) h = finds-all r ps (r .last + uncoded r ps) (r .more) (λ k b. refl) (later false)
 
   level-finds : (n : ℕ)
-      → (let a = offer r z p (suc n) in Finds value (Led (Level (suc n)) (Block r ps)) (withLevel r z p ps t a) (a ∷ follows a))
+      → (let a = offer r z p (suc n) in Finds value (Led (Level (suc n)) (Block r ps)) (withLevel r z p ps t a)
+      (a ∷ follows a))
   unfolding withLevel rest
   level-finds n =
       let best = offer-best r z p n in
@@ -165,10 +174,12 @@ module _ (r : Rule) (z : Bool) (p : ℕ) (ps : List ℕ)
   no-level : (l : List ℕ) → Led (Level 0) (Block r ps) l → ⊥
   no-level = led-each (λ l. ⊥) (λ a k h b. nonzero a (h .1) (in-allowed 0 a (h .0)))
 
-  place-finds : (m : ℕ) → (let a = takenBy r z p ps t m in Finds value (CodedBy m) (leastBy r z p ps t m) (a ∷ follows a))
+  place-finds : (m : ℕ)
+      → (let a = takenBy r z p ps t m in Finds value (CodedBy m) (leastBy r z p ps t m) (a ∷ follows a))
   unfolding takenBy leastBy
   place-finds zero =
-      finds-same (λ l s. joined 0 l (inl s)) (λ l c. ⊎-elim (λ s. s) (λ s. absurd (no-level l s)) (parted 0 l c)) zero-finds
+      finds-same (λ l s. joined 0 l (inl s)) (λ l c. ⊎-elim (λ s. s) (λ s. absurd (no-level l s)) (parted 0 l c))
+      zero-finds
   place-finds (suc n) =
       let a = offer r z p (suc n) in
       let on = under (withLevel r z p ps t a) (withZero r z p ps t) in
@@ -185,7 +196,8 @@ unfolding ahead
 ahead-none r true = refl
 ahead-none r false = refl
 
-pub ahead-at : (r : Rule) (z : Bool) (p : ℕ) (ps : List ℕ) → after z (ahead r (p ∷ ps)) ≡ leastBy r z p ps (ahead r ps) (r .top p)
+pub ahead-at : (r : Rule) (z : Bool) (p : ℕ) (ps : List ℕ)
+    → after z (ahead r (p ∷ ps)) ≡ leastBy r z p ps (ahead r ps) (r .top p)
 unfolding ahead
 ahead-at r true p ps = refl
 ahead-at r false p ps = refl
@@ -195,7 +207,8 @@ unfolding size
 no-place r [] s = true≢false (s .1)
 no-place r (a ∷ k) s = s .0
 
-ahead-finds : (r : Rule) (ps : List ℕ) (z : Bool) → Finds (λ k. rest r z k ps) (Coded r ps) (after z (ahead r ps)) (readOff r z ps)
+ahead-finds : (r : Rule) (ps : List ℕ) (z : Bool)
+    → Finds (λ k. rest r z k ps) (Coded r ps) (after z (ahead r ps)) (readOff r z ps)
 unfolding readOff taken
 ahead-finds r [] z = rw (ahead-none r z) (nothing (no-place r))
 ahead-finds r (p ∷ ps) z = rw (ahead-at r z p ps) (place-finds r z p ps (ahead-finds r ps) (r .top p))
@@ -222,4 +235,5 @@ module _ (r : Rule) (ps : List ℕ) where
 pub quiet-ahead : (r : Rule) (ps : List ℕ) → Quiet r ps → (z : Bool) → after z (ahead r ps) ≡ none
 unfolding leastBy withZero plus
 quiet-ahead r [] q z = ahead-none r z
-quiet-ahead r (p ∷ ps) q z = ahead-at r z p ps ∙ rw (q 0 (omega arith), quiet-ahead r ps (λ k h. q (suc k) (omega arith)) true)
+quiet-ahead r (p ∷ ps) q z =
+    ahead-at r z p ps ∙ rw (q 0 (omega arith), quiet-ahead r ps (λ k h. q (suc k) (omega arith)) true)

@@ -1,5 +1,5 @@
--- Places at the end whose m is 0 change neither the best price nor the cut: a walk may stop before them, and D, which is taken
--- over all places, is in its totals from the start.
+-- Places at the end whose m is 0 change neither the best price nor the cut: a walk may stop before them, and D, which
+-- is taken over all places, is in its totals from the start.
 -- Assumes nothing.
 use mathlib.Core.Path.{_≡_, refl, sym, ap, _∙_}
 use mathlib.Core.Logic.{inl, inr}
@@ -55,7 +55,8 @@ walk-parts r n w (p ∷ ps) (suc i) =
 
 module _ (r : Rule) (ps : List ℕ) (i : ℕ) (q : Quiet r (drop i ps)) where
   stopped : Same (walk r 0 (start r ps) (take i ps)) (walk r 0 (start r ps) ps)
-  stopped = rw (← walk-parts r 0 (start r ps) ps i) (quiet-walk r (0 + i) (walk r 0 (start r ps) (take i ps)) (drop i ps) q)
+  stopped = rw (← walk-parts r 0 (start r ps) ps i) (quiet-walk r (0 + i) (walk r 0 (start r ps) (take i ps))
+      (drop i ps) q)
 
   pub stopped-cut : (walk r 0 (start r ps) (take i ps)) .cut ≡ cutOf r ps
   stopped-cut = sym (stopped .1) ∙ one-pass-cut r ps

@@ -131,8 +131,10 @@ chroma = record { run = 2; level = 2; last = 1; cbf = 2 }
 -- of 0, 1, 2 and 5, after a nonzero level and after a 0
 rates : Rows → List ℕ
 rates rows =
-    rate 32768 tables rows false 0 ∷ rate 32768 tables rows false 1 ∷ rate 32768 tables rows false 2 ∷ rate 32768 tables rows false 5
-    ∷ rate 32768 tables rows true 0 ∷ rate 32768 tables rows true 1 ∷ rate 32768 tables rows true 2 ∷ rate 32768 tables rows true 5 ∷ []
+    rate 32768 tables rows false 0 ∷ rate 32768 tables rows false 1 ∷ rate 32768 tables rows false 2
+    ∷ rate 32768 tables rows false 5
+    ∷ rate 32768 tables rows true 0 ∷ rate 32768 tables rows true 1 ∷ rate 32768 tables rows true 2
+    ∷ rate 32768 tables rows true 5 ∷ []
 
 luma-rates : rates luma
     ≡ 2 ∷ (32768 + 1 + 256) ∷ (32768 + 1 + 512 + 1024) ∷ (32768 + 1 + 512 + 3 * 2048 + 1024)

@@ -40,7 +40,8 @@ pub record Greatest (x : Float) (r : ℕ) : Type 0 where
   pub under : lt x (ofInt binary64 (pos r)) ≡ false
   pub last : (k : ℕ) → k ≤ 2 ^ 28 → lt x (ofInt binary64 (pos k)) ≡ false → k ≤ r
 
--- r is the whole number of d, by both halves of the paper's sentence. proofs/Lambda.antt: they agree for every accepted d
+-- r is the whole number of d, by both halves of the paper's sentence. proofs/Lambda.antt: they agree for every accepted
+-- d
 pub record LambdaWhole (d : Float) (r : ℕ) : Type 0 where
   pub is : r ≡ lambdaOf d
   pub greatest : Greatest (lambdaSum d) r

@@ -1,5 +1,6 @@
--- What becomes of one coefficient: its magnitude scaled, rounded and compared with the threshold, and how far a magnitude
--- is from it. The scale q, the shift b and the error scale e are arguments, since block sides, QP and scale tables vary them.
+-- What becomes of one coefficient: its magnitude scaled, rounded and compared with the threshold, and how far a
+-- magnitude is from it. The scale q, the shift b and the error scale e are arguments, since block sides, QP and scale
+-- tables vary them.
 use mathlib.Core.Bool.{Bool, cond}
 use Prim.Native.Nat.{ℕ, _+_, _-_, _*_, _/_, _^_}
 use lib.IntN.{ℤ, pos, negsuc, negℤ, natAbs, subℕ, _*ℤ_}

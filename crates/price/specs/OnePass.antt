@@ -1,5 +1,5 @@
--- The walk's running totals, as code holds them. base: the coded flag, the costs and more flags of what is walked, and the
--- distortions of 0 behind it. best and cut: the least price of a cut so far, and that cut. prev: the level before.
+-- The walk's running totals, as code holds them. base: the coded flag, the costs and more flags of what is walked, and
+-- the distortions of 0 behind it. best and cut: the least price of a cut so far, and that cut. prev: the level before.
 -- One pass over the places finds the cut of specs/Walk.antt and its price (proofs/OnePass.antt).
 use mathlib.Core.Bool.{cond, not, _&&_}
 use mathlib.Core.List.{List, [], _∷_}

@@ -1,6 +1,6 @@
--- The price of a finished block, from its magnitudes alone: no walk is spoken of. With its last nonzero level at place p it
--- is the costs of places 0..p, the distortions of 0 after p, the coded flag, the more flag per nonzero level before p and
--- the last flag for p. The empty block's is D and the empty flag.
+-- The price of a finished block, from its magnitudes alone: no walk is spoken of. With its last nonzero level at place
+-- p it is the costs of places 0..p, the distortions of 0 after p, the coded flag, the more flag per nonzero level
+-- before p and the last flag for p. The empty block's is D and the empty flag.
 use mathlib.Core.Bool.{Bool, false}
 use mathlib.Core.List.{List, [], _∷_}
 use Prim.Native.Nat.{ℕ, zero, suc, _+_, _*_}
@@ -50,7 +50,8 @@ unfoldable pub priceTo : ℕ → Rule → List ℕ → List ℕ → ℕ
 unfolding uncoded costs nonzeros
 priceTo zero r ls ps = uncoded r ps + r .empty
 priceTo (suc p) r ls ps =
-    costs r false (take (suc p) ls) ps + uncoded r (drop (suc p) ps) + r .coded + nonzeros (take p ls) * r .more + r .last
+    costs r false (take (suc p) ls) ps + uncoded r (drop (suc p) ps) + r .coded + nonzeros (take p ls) * r .more + r
+    .last
 
 unfoldable pub price : Rule → List ℕ → List ℕ → ℕ
 unfolding size priceTo

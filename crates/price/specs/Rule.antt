@@ -1,14 +1,14 @@
--- What a block is priced by, and what a level's magnitude may be. A place is a number, its L; a block is the list of its
--- levels' magnitudes in scan order. Walk, cut and price depend on one Rule alone, however its numbers are made.
+-- What a block is priced by, and what a level's magnitude may be. A place is a number, its L; a block is the list of
+-- its levels' magnitudes in scan order. Walk, cut and price depend on one Rule alone, however its numbers are made.
 use mathlib.Core.Bool.{Bool, true, false}
 use mathlib.Core.Logic.{_⊎_}
 use mathlib.Core.Path.{_≡_}
 use Prim.Native.Nat.{ℕ, zero, suc, _+_, _≤_}
 
--- top: the rounded magnitude m of a place. dist: the distortion of a magnitude at a place.
--- The rest has lambda multiplied in. rate: of a magnitude, with whether the level before it in scan is 0; coded and empty:
--- the flag of a block with nonzero levels and of one without; more and last: the flag of a nonzero level before the last
--- one, and of the last one.
+-- top: the rounded magnitude m of a place. dist: the distortion of a magnitude at a place. The rest has lambda
+-- multiplied in. rate: of a magnitude, with whether the level before it in scan is 0; coded and empty: the flag of a
+-- block with nonzero levels and of one without; more and last: the flag of a nonzero level before the last one, and of
+-- the last one.
 pub record Rule : Type 0 where
   pub top : ℕ → ℕ
   pub dist : ℕ → ℕ → ℕ

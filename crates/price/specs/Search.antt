@@ -1,7 +1,7 @@
--- How the cheapest block is found in one pass back and one forth. A rate depends only on whether the level before is 0, so two
--- least prices a place are enough: of what comes from there on after a 0, and after a nonzero level. They are worked out
--- backwards; then the block is read off forwards, 0 before m - 1 before m, and ending before going on. That it is the block of
--- specs/Cheapest.antt is in proofs/Search.antt.
+-- How the cheapest block is found in one pass back and one forth. A rate depends only on whether the level before is 0,
+-- so two least prices a place are enough: of what comes from there on after a 0, and after a nonzero level. They are
+-- worked out backwards; then the block is read off forwards, 0 before m - 1 before m, and ending before going on. That
+-- it is the block of specs/Cheapest.antt is in proofs/Search.antt.
 use mathlib.Core.Bool.{Bool, true, false, cond}
 use mathlib.Core.List.{List, [], _∷_}
 use Prim.Native.Nat.{ℕ, zero, suc, _+_, _-_}

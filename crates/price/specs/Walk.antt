@@ -1,6 +1,6 @@
--- The walk and its cut. In scan order each place takes the cheapest magnitude allowed after those before it, ties preferring
--- 0, then m. Of the walk cut behind each of its nonzero levels, and of the empty block, the cheapest is written, ties
--- preferring the empty block, then the earliest cut. Both choices are the first of least value in a list.
+-- The walk and its cut. In scan order each place takes the cheapest magnitude allowed after those before it, ties
+-- preferring 0, then m. Of the walk cut behind each of its nonzero levels, and of the empty block, the cheapest is
+-- written, ties preferring the empty block, then the earliest cut. Both choices are the first of least value in a list.
 use mathlib.Core.Bool.{Bool, false, cond}
 use mathlib.Core.List.{List, [], _∷_}
 use Prim.Native.Nat.{ℕ, zero, suc, _-_, _<_}

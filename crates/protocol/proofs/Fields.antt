@@ -36,11 +36,13 @@ put-here [] i v m h = omega arith
 put-here (x ∷ l) zero v m h = h
 put-here (x ∷ l) (suc i) v m h = put-here l i v m h
 
-pub one-more : (kinds fields : List ℕ) (i v : ℕ) → ((k : ℕ) → k < i → getD fields k 0 ≤ limitOf (getD kinds k 0)) → v ≤ limitOf (getD kinds i 0)
+pub one-more : (kinds fields : List ℕ) (i v : ℕ) → ((k : ℕ) → k < i → getD fields k 0 ≤ limitOf (getD kinds k 0))
+    → v ≤ limitOf (getD kinds i 0)
     → (k : ℕ) → k < i + 1 → getD (set fields i v) k 0 ≤ limitOf (getD kinds k 0)
 one-more kinds fields i v before h k l =
     ⊎-elim
-    (λ e. subst (λ (j : ℕ). getD (set fields i v) j 0 ≤ limitOf (getD kinds j 0)) (sym e) (put-here fields i v (limitOf (getD kinds i 0)) h))
+    (λ e. subst (λ (j : ℕ). getD (set fields i v) j 0 ≤ limitOf (getD kinds j 0)) (sym e)
+    (put-here fields i v (limitOf (getD kinds i 0)) h))
     (λ m. rw (getD-set-other fields i k v 0 (λ e. other e m)) (before k m))
     (eq-or-lt-of-le (le-of-suc-le-suc (rw add-one at l)))
   where
@@ -48,7 +50,9 @@ one-more kinds fields i v before h k l =
     other e m = omega arith
 
 -- ---- the call of `quantise`, by what its fields were made into
-module _ {A : Type 0} (of : Quant → A) (mode : Mode) (x : A) (samples : List ℤ) (f : List ℕ) (k : Component) (s : Settings) (t : Costs) where
+module _ {A : Type 0} (of : Quant → A) (mode : Mode) (x : A) (samples : List ℤ) (f : List ℕ) (k : Component)
+    (s : Settings) (t : Costs) where
   pub quantise-by : k ≡ componentBy (getD f 0 0) → s ≡ settingsAt 2 f → t ≡ costsAt 6 f
-      → x ≡ of (calledIn mode samples (getD f 1 0) k s (yes (getD f 4 0)) (yes (getD f 5 0)) t) → x ≡ of (quantiseBy mode samples f)
+      → x ≡ of (calledIn mode samples (getD f 1 0) k s (yes (getD f 4 0)) (yes (getD f 5 0)) t)
+      → x ≡ of (quantiseBy mode samples f)
   quantise-by p q r e = rw (p, q, r) at e

@@ -1,5 +1,6 @@
--- A request: the word that names its verb, and its fields before the samples, each by its kind, which is a letter: a component
--- (`c`, 99), a number of 32 bits (`i`, 105), the bits of an f64 (`x`, 120), and any number of 64 bits (`w`, 119).
+-- A request: the word that names its verb, and its fields before the samples, each by its kind, which is a letter: a
+-- component (`c`, 99), a number of 32 bits (`i`, 105), the bits of an f64 (`x`, 120), and any number of 64 bits (`w`,
+-- 119).
 use mathlib.Core.Path.{_≡_}
 use mathlib.Core.Bool.{Bool, not, cond}
 use mathlib.Core.List.{List, [], _∷_}
@@ -96,12 +97,14 @@ eightAt i f =
 
 -- COSTS
 abbrev pub costsAt : ℕ → List ℕ → Costs
-costsAt i f = record { run = eightAt i f; level = eightAt (i + 8) f; last = fourAt (i + 16) f; cbf = eightAt (i + 20) f }
+costsAt i f =
+    record { run = eightAt i f; level = eightAt (i + 8) f; last = fourAt (i + 16) f; cbf = eightAt (i + 20) f }
 
 -- the call of `quantise`: COMPONENT LOG2 QP LAMBDA INTRA_SLICE INTRA_CODED, COSTS
 abbrev pub quantiseBy : Mode → List ℤ → List ℕ → Quant
 quantiseBy mode samples f =
-    calledIn mode samples (getD f 1 0) (componentBy (getD f 0 0)) (settingsAt 2 f) (yes (getD f 4 0)) (yes (getD f 5 0)) (costsAt 6 f)
+    calledIn mode samples (getD f 1 0) (componentBy (getD f 0 0)) (settingsAt 2 f) (yes (getD f 4 0)) (yes (getD f 5 0))
+    (costsAt 6 f)
 
 -- the call of `subblock`: LOG2 RUN, a QP and a LAMBDA each of Y, U and V, INTRA_SLICE INTRA_CODED, COSTS
 abbrev pub requestOf : Mode → List ℕ → Request

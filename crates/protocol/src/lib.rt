@@ -1,4 +1,5 @@
-// The line protocol: one request line, one answer line, over slices. A line that is no request is answered by `malformed`.
+// The line protocol: one request line, one answer line, over slices. A line that is no request is answered by
+// `malformed`.
 use crate::reply::Reply;
 use crate::reply::of_quantise;
 use crate::reply::of_sub_block;
@@ -89,7 +90,8 @@ fn answer_in(room: &mut [i16], line: &[u8], out: &mut [u8; 65536]) -> usize
     answer_verb(verb, room, line, end + 1, out)
 }
 
-// The answer to a line, at the start of `out`, and its length. Neither line has its newline; there is room behind the answer for one.
+// The answer to a line, at the start of `out`, and its length. Neither line has its newline; there is room behind the
+// answer for one.
 pub fn answer(line: &[u8], out: &mut [u8; 65536]) -> usize
     ensures { λ r. ⌜ (1 ≤ r) × (r ≤ 65535) ⌝ }
 {

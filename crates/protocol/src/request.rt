@@ -18,7 +18,8 @@ ghost use mathlib.Core.Path.{_≡_};
 ghost use Prim.Native.Nat.{_≤_};
 ghost use lib.ListN.{length, getD};
 ghost use Rattle.quantise.specs.Call.{paperOf, quantAnswer, quantBuffer};
-ghost use Rattle.protocol.specs.Request.{limitOf, fieldOf, kindsOf, Within, FewSamples, componentBy, settingsAt, fourAt, eightAt, costsAt, quantiseBy, requestOf};
+ghost use Rattle.protocol.specs.Request.{limitOf, fieldOf, kindsOf, Within, FewSamples, componentBy, settingsAt};
+ghost use Rattle.protocol.specs.Request.{fourAt, eightAt, costsAt, quantiseBy, requestOf};
 
 // The cursor after some fields, or that one of them is malformed.
 pub enum Place {
@@ -188,7 +189,8 @@ fn costs_of(fields: &[u64; 40], i: usize) -> Costs
 pub fn quantise_by(room: &mut [i16], fields: &[u64; 40], mode: Mode) -> QuantAnswer
     requires { ⌜ getD (now fields) 2 0 ≤ 4294967295 ⌝ }
     ensures answer { λ r. ⌜ paperOf r ≡ quantAnswer (quantiseBy mode (now (room .entry)) (now (fields .entry))) ⌝ }
-    ensures buffer { λ _. ⌜ now (room .exit) ≡ quantBuffer (quantiseBy mode (now (room .entry)) (now (fields .entry))) ⌝ }
+    ensures buffer { λ _. ⌜ now (room .exit)
+        ≡ quantBuffer (quantiseBy mode (now (room .entry)) (now (fields .entry))) ⌝ }
 {
     let settings = settings_of(fields, 2);
     let costs = costs_of(fields, 6);
@@ -206,7 +208,8 @@ pub fn quantise_by(room: &mut [i16], fields: &[u64; 40], mode: Mode) -> QuantAns
 
 // What `subblock` asks the call for, and in the other mode `subblock-least`.
 pub fn request_of(fields: &[u64; 40], mode: Mode) -> Request
-    requires { ⌜ (getD (now fields) 1 0 ≤ 4294967295) × (getD (now fields) 2 0 ≤ 4294967295) × (getD (now fields) 4 0 ≤ 4294967295) × (getD (now fields) 6 0 ≤ 4294967295) ⌝ }
+    requires { ⌜ (getD (now fields) 1 0 ≤ 4294967295) × (getD (now fields) 2 0 ≤ 4294967295)
+        × (getD (now fields) 4 0 ≤ 4294967295) × (getD (now fields) 6 0 ≤ 4294967295) ⌝ }
     ensures { λ r. ⌜ r ≡ requestOf mode (now (fields .entry)) ⌝ }
 {
     Request {

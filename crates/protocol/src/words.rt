@@ -1,4 +1,5 @@
-// Words of a line: a word ends at the next space or at the line's end. A cursor that stands one past the line's end has nothing left.
+// Words of a line: a word ends at the next space or at the line's end. A cursor that stands one past the line's end has
+// nothing left.
 ghost use Prim.Native.Nat.{_≤_};
 ghost use lib.ListN.{length};
 

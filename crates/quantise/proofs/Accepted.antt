@@ -12,7 +12,8 @@ use Rattle.refusals.proofs.First.{head-fails, rest-fails, no-fault-if-accepted,
 use Rattle.price.specs.Lambda.{lambdaRefused}
 use Rattle.price.specs.Costs.{costRefused}
 use Rattle.quantise.specs.Block.{Quant, area, lambdaHere, isSkipped}
-use Rattle.quantise.specs.Call.{quantFaults, quantVerdict, sideFault, qpFault, lambdaFault, costFault, lengthFault, levelFault, priceFault, distortionFault, largestHere, uncodedHere}
+use Rattle.quantise.specs.Call.{quantFaults, quantVerdict, sideFault, qpFault, lambdaFault, costFault}
+use Rattle.quantise.specs.Call.{lengthFault, levelFault, priceFault, distortionFault, largestHere, uncodedHere}
 
 -- the last three are of a walked block
 pub record Accepted (c : Quant) : Type 0 where
@@ -30,7 +31,8 @@ walked : (c : Quant) → isSkipped c ≡ false → not (isSkipped c) ≡ true
 walked c e = rw e
 
 pub no-fault : (c : Quant) → quantVerdict c ≡ accepted → Accepted c
-unfolding quantVerdict quantFaults sideFault qpFault lambdaFault costFault lengthFault levelFault priceFault distortionFault
+unfolding quantVerdict quantFaults sideFault qpFault lambdaFault costFault lengthFault levelFault priceFault
+    distortionFault
 no-fault c e =
     let f1 = no-fault-if-accepted c quantFaults e in
     let f2 = rest-fails c f1 in
@@ -49,11 +51,13 @@ no-fault c e =
       lambda = head-fails c f3;
       costs = head-fails c f4;
       long = ltb-false (length (c .buffer)) (area c) (head-fails c f5);
-      level = λ w. ltb-false 32767 (largestHere c) (not-both (not (isSkipped c)) (ltb 32767 (largestHere c)) (head-fails c f7) (walked c w));
+      level = λ w. ltb-false 32767 (largestHere c) (not-both (not (isSkipped c)) (ltb 32767 (largestHere c))
+          (head-fails c f7) (walked c w));
       price =
           λ w.
           ltb-false (2 ^ 41) (lambdaHere c * suc (largestHere c))
-          (not-both (not (isSkipped c)) (ltb (2 ^ 41) (lambdaHere c * suc (largestHere c))) (head-fails c f8) (walked c w));
+          (not-both (not (isSkipped c)) (ltb (2 ^ 41) (lambdaHere c * suc (largestHere c))) (head-fails c f8)
+          (walked c w));
       distortion =
           λ w.
           ltb-false (2 ^ 60) (uncodedHere c)

@@ -1,5 +1,5 @@
--- What refusals 6 to 9 leave: coefficients of at most 32767, magnitudes of at most 32767 that cost at most 2^61, and a D of at most
--- 2^60. By these the walk's totals stay below 2^62, and so does the price. Assumes nothing.
+-- What refusals 6 to 9 leave: coefficients of at most 32767, magnitudes of at most 32767 that cost at most 2^61, and a
+-- D of at most 2^60. By these the walk's totals stay below 2^62, and so does the price. Assumes nothing.
 use mathlib.Core.Path.{_≡_, sym, ap, _∙_}
 use mathlib.Core.Logic.{⊎-elim}
 use mathlib.Core.List.{List}
@@ -20,7 +20,8 @@ use Rattle.quantise.specs.Code.{Held, Within}
 use Rattle.quantise.proofs.Reaching.{magnitude-grows, within-largest}
 
 -- one step of a level costs at most lambda·2^20
-pub each-small : (sign lambda : ℕ) (t : Costs) (rows : Rows) (p : Prices) → InRange t → p ≡ pricesOf sign lambda t rows → p .each ≤ lambda * 1048576
+pub each-small : (sign lambda : ℕ) (t : Costs) (rows : Rows) (p : Prices) → InRange t → p ≡ pricesOf sign lambda t rows
+    → p .each ≤ lambda * 1048576
 unfolding pricesOf entry
 each-small sign lambda t rows p h e =
     omega (arith, ap (λ (x : Prices). x .each) e, mul-le-mul-left lambda (h .level (2 * (rows .level + 1) + 1)))
@@ -29,17 +30,21 @@ module _ (B : List ℤ) (top : ℕ) (e : top ≡ over onMax natAbs B) (few : top
   pub all-few : Within B 32767
   all-few k = omega (arith, within-largest B k)
 
-  pub all-fine : (g : Scale) → Sound g → (p : Prices) (lambda m : ℕ) → m ≡ magnitude (g .shift) (top * g .q) → m ≤ 32767 → lambda * suc m ≤ 2 ^ 41
+  pub all-fine : (g : Scale) → Sound g → (p : Prices) (lambda m : ℕ) → m ≡ magnitude (g .shift) (top * g .q) → m ≤ 32767
+      → lambda * suc m ≤ 2 ^ 41
       → p .each ≤ lambda * 1048576 → (k : ℕ) → Fine p g (scaled (g .q) (at B k))
   unfolding scaled
   all-fine g s p lambda m em hm hp he k =
       let a = natAbs (at B k) in
       let le : a ≤ top = omega (arith, within-largest B k) in
-      let grown : magnitude (g .shift) (a * g .q) ≤ m = omega (arith, magnitude-grows (g .shift) (a * g .q) (top * g .q) (mul-le-mul-right (g .q) le)) in
-      let wide : g .q * g .error ≤ 16384 * 2 ^ 20 = omega (arith, s .exact, mul-le-mul-right (2 ^ 20) (s .wide-front)) in
+      let grown : magnitude (g .shift) (a * g .q) ≤ m =
+      omega (arith, magnitude-grows (g .shift) (a * g .q) (top * g .q) (mul-le-mul-right (g .q) le)) in
+      let wide : g .q * g .error ≤ 16384 * 2 ^ 20 =
+      omega (arith, s .exact, mul-le-mul-right (2 ^ 20) (s .wide-front)) in
       let near : a * (g .q * g .error) ≤ 32767 * (16384 * 2 ^ 20) = mul-le-mul (all-few k) wide in
       let dear : magnitude (g .shift) (a * g .q) * p .each ≤ m * (lambda * 1048576) = mul-le-mul grown he in
-      let split : m * (lambda * 1048576) ≡ lambda * m * 1048576 = mul-left-comm m lambda 1048576 ∙ sym (mul-assoc lambda m 1048576) in
+      let split : m * (lambda * 1048576) ≡ lambda * m * 1048576 = mul-left-comm m lambda 1048576
+      ∙ sym (mul-assoc lambda m 1048576) in
       let below : lambda * m ≤ lambda * suc m = mul-le-mul-left lambda (omega arith) in
       record {
         near = omega (arith, mul-assoc a (g .q) (g .error));
@@ -50,8 +55,10 @@ module _ (B : List ℤ) (top : ℕ) (e : top ≡ over onMax natAbs B) (few : top
 -- the sum that code holds is D where it is at most 2^60
 pub held-is : (s r : ℕ) → Held s r → r ≤ 2 ^ 60 → (r ≡ s) × (s ≤ 2 ^ 60)
 held-is s r h le =
-    ⊎-elim (λ (q : 2 ^ 60 < s). absurd (let z : ⊥ = omega (arith, h .beyond q) in z)) (λ (q : s ≤ 2 ^ 60). (h .within q, q)) (below-or-not (2 ^ 60) s)
+    ⊎-elim (λ (q : 2 ^ 60 < s). absurd (let z : ⊥ = omega (arith, h .beyond q) in z))
+    (λ (q : s ≤ 2 ^ 60). (h .within q, q)) (below-or-not (2 ^ 60) s)
 
 pub held-beyond : (s r : ℕ) → Held s r → 2 ^ 60 < r → 2 ^ 60 < s
 held-beyond s r h lt =
-    ⊎-elim (λ (q : 2 ^ 60 < s). q) (λ (q : s ≤ 2 ^ 60). absurd (let z : ⊥ = omega (arith, h .within q) in z)) (below-or-not (2 ^ 60) s)
+    ⊎-elim (λ (q : 2 ^ 60 < s). q) (λ (q : s ≤ 2 ^ 60). absurd (let z : ⊥ = omega (arith, h .within q) in z))
+    (below-or-not (2 ^ 60) s)

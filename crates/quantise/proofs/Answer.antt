@@ -1,5 +1,5 @@
--- What the definition answers of document 01's call, as code finds it: the faults one by one, and skip, M, D and the rule by the
--- numbers that code works out from the block by rows. Assumes nothing.
+-- What the definition answers of document 01's call, as code finds it: the faults one by one, and skip, M, D and the
+-- rule by the numbers that code works out from the block by rows. Assumes nothing.
 use mathlib.Core.Path.{_≡_, refl, sym, ap, subst, fun-ext, _∙_}
 use mathlib.Core.Bool.{Bool, true, false, not, _||_}
 use mathlib.Core.List.{List, [], _∷_, map}
@@ -35,8 +35,12 @@ use Rattle.rule.specs.declared.scale.Scale.{Scale}
 use Rattle.rule.specs.declared.prices.Prices.{Prices}
 use Rattle.rule.specs.Rows.{rowsOf}
 use Rattle.quantise.specs.declared.Mode.{Mode}
-use Rattle.quantise.specs.Block.{Quant, calledIn, writtenIn, sideOf, area, scaleHere, shiftHere, lambdaHere, ruleOf, blockPlaces, scanned, places, isSkipped, largest, magnitudes, signs, laid, countOf, priceOf, quantised}
-use Rattle.quantise.specs.Call.{sideFault, qpFault, lambdaFault, costFault, lengthFault, sampleFault, largestHere, levelFault, priceFault, uncodedHere, distortionFault, quantFaults, quantVerdict, coded, refusedWith, quantAnswer, quantBuffer}
+use Rattle.quantise.specs.Block.{Quant, calledIn, writtenIn, sideOf, area, scaleHere, shiftHere, lambdaHere}
+use Rattle.quantise.specs.Block.{ruleOf, blockPlaces, scanned, places, isSkipped, largest, magnitudes, signs}
+use Rattle.quantise.specs.Block.{laid, countOf, priceOf, quantised}
+use Rattle.quantise.specs.Call.{sideFault, qpFault, lambdaFault, costFault, lengthFault, sampleFault, largestHere}
+use Rattle.quantise.specs.Call.{levelFault, priceFault, uncodedHere, distortionFault, quantFaults, quantVerdict}
+use Rattle.quantise.specs.Call.{coded, refusedWith, quantAnswer, quantBuffer}
 use Rattle.rule.specs.Scale.{ScaleOf}
 use Rattle.rule.specs.Prices.{pricesOf, ruleBy}
 use Rattle.quantise.specs.Code.{zeroDistortion, placesBy, inOrder, CodedAs}
@@ -48,11 +52,13 @@ use Rattle.quantise.proofs.Laid.{laid-length, laid-on-scan}
 -- ---- the two ways out
 module _ (c : Quant) where
   pub refused-answer : {f : Fault Quant} → First c f quantFaults
-      → (quantAnswer c ≡ refusedWith (numberOf (f .refusal)) (componentOf (f .component c))) × (quantBuffer c ≡ c .buffer)
+      → (quantAnswer c ≡ refusedWith (numberOf (f .refusal)) (componentOf (f .component c)))
+      × (quantBuffer c ≡ c .buffer)
   unfolding quantAnswer quantBuffer quantVerdict
   refused-answer h = let e = refused-with-the-first c quantFaults h in rw e (refl, refl)
 
-  pub accepted-answer : None c quantFaults → (quantAnswer c ≡ coded (countOf c) (priceOf c)) × (quantBuffer c ≡ quantised c)
+  pub accepted-answer : None c quantFaults → (quantAnswer c ≡ coded (countOf c) (priceOf c))
+      × (quantBuffer c ≡ quantised c)
   unfolding quantAnswer quantBuffer quantVerdict
   accepted-answer h = let e = accepted-without-a-fault c quantFaults h in rw e (refl, refl)
 
@@ -145,12 +151,14 @@ module _ (v : Mode) (B : List ℤ) (l : ℕ) (k : Component) (s : Settings) (i j
     scanned-here = refl
 
     -- the quick skip
-    pub skipped-here : isSkipped call ≡ not (some (λ z. leb (threshold i (shiftOf l (s .qp))) (scaled (scaleOf forward (s .qp)) z)) B)
+    pub skipped-here : isSkipped call
+        ≡ not (some (λ z. leb (threshold i (shiftOf l (s .qp))) (scaled (scaleOf forward (s .qp)) z)) B)
     unfolding isSkipped shiftHere sideOf places scanned blockPlaces scaleHere calledIn
     skipped-here =
         let u = threshold i (shiftOf l (s .qp)) in
         let q = scaleOf forward (s .qp) in
-        ap (λ (n : ℕ). not (some (λ L. leb (threshold i (shiftOf n (s .qp))) L) (map (λ z. scaled q z) (inOrder side B)))) half-sum
+        ap (λ (n : ℕ). not
+        (some (λ L. leb (threshold i (shiftOf n (s .qp))) L) (map (λ z. scaled q z) (inOrder side B)))) half-sum
         ∙ ap not
         (some-over (λ L. leb u L) (map (λ z. scaled q z) (inOrder side B))
         ∙ over-map onOr (λ L. leb u L) (λ z. scaled q z) (inOrder side B)
@@ -167,7 +175,8 @@ module _ (v : Mode) (B : List ℤ) (l : ℕ) (k : Component) (s : Settings) (i j
       unfolding levelFault
       level-here b e = rw not-skipped e
 
-      pub price-here : (b : Bool) → ltb (2 ^ 41) (lambdaHere call * suc (largestHere call)) ≡ b → priceFault .holds call ≡ b
+      pub price-here : (b : Bool) → ltb (2 ^ 41) (lambdaHere call * suc (largestHere call)) ≡ b
+          → priceFault .holds call ≡ b
       unfolding priceFault
       price-here b e = rw not-skipped e
 
@@ -176,17 +185,21 @@ module _ (v : Mode) (B : List ℤ) (l : ℕ) (k : Component) (s : Settings) (i j
       distortion-here b e = rw not-skipped e
 
     module _ (hq : s .qp ≤ 63) (hl : lambdaRefused (s .lambda) ≡ false) (hc : costRefused t ≡ false) where
-      pub past-five : {f : Fault Quant} → First call f (sampleFault ∷ levelFault ∷ priceFault ∷ distortionFault ∷ []) → First call f quantFaults
+      pub past-five : {f : Fault Quant} → First call f (sampleFault ∷ levelFault ∷ priceFault ∷ distortionFault ∷ [])
+          → First call f quantFaults
       unfolding quantFaults
       past-five h =
           later (side-right lo hi)
-          (later (qp-right hq) (later (lambda-test false hl) (later (cost-test false hc) (later (length-right (omega arith)) h))))
+          (later (qp-right hq)
+          (later (lambda-test false hl) (later (cost-test false hc) (later (length-right (omega arith)) h))))
 
-      pub none-of-nine : None call (sampleFault ∷ levelFault ∷ priceFault ∷ distortionFault ∷ []) → None call quantFaults
+      pub none-of-nine : None call (sampleFault ∷ levelFault ∷ priceFault ∷ distortionFault ∷ [])
+          → None call quantFaults
       unfolding quantFaults
       none-of-nine h =
           but (side-right lo hi)
-          (but (qp-right hq) (but (lambda-test false hl) (but (cost-test false hc) (but (length-right (omega arith)) h))))
+          (but (qp-right hq)
+          (but (lambda-test false hl) (but (cost-test false hc) (but (length-right (omega arith)) h))))
 
       -- ---- a skipped block becomes all 0, with count 0 and price 0
       module _ (yes : isSkipped call ≡ true) (none : some (λ z. eqℤ z (negsuc 32767)) B ≡ false) where
@@ -247,7 +260,8 @@ module _ (v : Mode) (B : List ℤ) (l : ℕ) (k : Component) (s : Settings) (i j
             at-place : (n : ℕ) → n < side * side → at (laid (scan side side) vs B) (scanAt side side n) ≡ pos 0
             at-place n h =
                 laid-on-scan side side some-side some-side vs B n
-                (signs-length (inOrder side B) (map blank (places call)) as-many ∙ length-map (scan side side) (λ p. at B p))
+                (signs-length (inOrder side B) (map blank (places call)) as-many
+                ∙ length-map (scan side side) (λ p. at B p))
                 (omega arith) (omega (arith, full))
                 ∙ signs-at (inOrder side B) (map blank (places call)) n as-many (omega (arith, coefficients))
                 ∙ ap (signed (at (inOrder side B) n)) (none-at (places call) n)
@@ -296,7 +310,8 @@ module _ (v : Mode) (B : List ℤ) (l : ℕ) (k : Component) (s : Settings) (i j
           let v = pricesOf 32768 lambda t (rowsOf k j) in
           let rate-of : Bool → ℕ → ℕ = λ z a. lambda * rate 32768 t (rowsOf k j) z a in
           let error-here : errorScale ((l + l) / 2) (scaleOf forward (s .qp)) ≡ g .error =
-          ap (λ (n : ℕ). errorScale n (scaleOf forward (s .qp))) half-sum ∙ ap (errorScale l) (sym (w .q)) ∙ sym (w .error) in
+          ap (λ (n : ℕ). errorScale n (scaleOf forward (s .qp))) half-sum ∙ ap (errorScale l) (sym (w .q))
+          ∙ sym (w .error) in
           ap (λ (n : ℕ). made n (errorScale ((l + l) / 2) (scaleOf forward (s .qp))) rate-of v) shift-here
           ∙ ap (λ (n : ℕ). made (g .shift) n rate-of v) error-here
           ∙ ap (λ (f : Bool → ℕ → ℕ). made (g .shift) (g .error) f v)
@@ -321,7 +336,9 @@ module _ (v : Mode) (B : List ℤ) (l : ℕ) (k : Component) (s : Settings) (i j
       uncoded-here = let p = pricesOf 32768 (lambdaHere call) t (rowsOf k j) in uncoded-is p refl ∙ uncoded-by p
 
       -- ---- a block without a fault
-      module _ (hq : s .qp ≤ 63) (hl : lambdaRefused (s .lambda) ≡ false) (hc : costRefused t ≡ false) (no : isSkipped call ≡ false) (no-fault : None call (sampleFault ∷ levelFault ∷ priceFault ∷ distortionFault ∷ []))
+      module _ (hq : s .qp ≤ 63) (hl : lambdaRefused (s .lambda) ≡ false) (hc : costRefused t ≡ false)
+          (no : isSkipped call ≡ false) (no-fault : None call (sampleFault ∷ levelFault ∷ priceFault ∷ distortionFault
+          ∷ []))
           (p : Prices) (e : p ≡ pricesOf 32768 (lambdaHere call) t (rowsOf k j)) where
         mode-here : call .mode ≡ v
         unfolding calledIn
@@ -350,6 +367,7 @@ module _ (v : Mode) (B : List ℤ) (l : ℕ) (k : Component) (s : Settings) (i j
               a .0 ∙ ap (λ (y : ℕ). coded y (priceOf call)) n ∙ ap (coded (r .count)) x,
               a .1
                   ∙ ap (λ (ms : List ℕ). laid (scan side side) (signs (scanned call) ms) B) written-here
-                  ∙ ap (λ (zs : List ℤ). laid (scan side side) (signs zs (writtenIn v (ruleBy p g) (placesBy g side B))) B) scanned-here
+                  ∙ ap (λ (zs : List ℤ). laid (scan side side) (signs zs (writtenIn v (ruleBy p g) (placesBy g side B)))
+                  B) scanned-here
                   ∙ sym (c .buffer),
             )

@@ -1,5 +1,5 @@
--- How large the numbers of an accepted call become: the running totals of its walk and its price stay below 2^62, with room for a
--- block of side 64, and its count is at most the block's places. Code holds them in 64 bits.
+-- How large the numbers of an accepted call become: the running totals of its walk and its price stay below 2^62, with
+-- room for a block of side 64, and its count is at most the block's places. Code holds them in 64 bits.
 -- Assumes nothing.
 use mathlib.Core.Path.{_≡_, refl}
 use mathlib.Core.Bool.{Bool, true, false, cond}
@@ -16,7 +16,8 @@ use Rattle.price.proofs.Lambda.{lambda-below}
 use Rattle.price.proofs.Rates.{costs-in-range}
 use Rattle.price.proofs.Bounds.{walk-within}
 use Rattle.price.proofs.Promises.{nonzeros-at-most}
-use Rattle.quantise.specs.Block.{Quant, area, lambdaHere, ruleOf, places, isSkipped, writtenIn, magnitudes, countOf, priceOf}
+use Rattle.quantise.specs.Block.{Quant, area, lambdaHere, ruleOf, places, isSkipped, writtenIn, magnitudes}
+use Rattle.quantise.specs.Block.{countOf, priceOf}
 use Rattle.quantise.specs.Call.{quantVerdict, uncodedHere}
 use Rattle.quantise.proofs.Modes.{price-at-most-empty}
 use Rattle.quantise.proofs.Accepted.{Accepted, no-fault}
@@ -77,7 +78,8 @@ module _ (c : Quant) (ok : quantVerdict c ≡ accepted) where
   price-below = by (isSkipped c) refl
     where
       by : (t : Bool) → isSkipped c ≡ t
-          → cond t 0 (price (ruleOf c) (cond t (map (λ L. 0) (places c)) (writtenIn (c .mode) (ruleOf c) (places c))) (places c)) < 2 ^ 62
+          → cond t 0 (price (ruleOf c) (cond t (map (λ L. 0) (places c)) (writtenIn (c .mode) (ruleOf c) (places c)))
+          (places c)) < 2 ^ 62
       by true e = omega arith
       by false e = omega (arith, price-at-most-empty (c .mode) (ruleOf c) (places c), D-bound e, empty-bound)
 

@@ -1,5 +1,5 @@
--- The levels of a block, by all that is proved of keeping, walking or searching, and signing: code leaves the block that the definition lays
--- along the scan, and answers its count and its price. Assumes nothing.
+-- The levels of a block, by all that is proved of keeping, walking or searching, and signing: code leaves the block
+-- that the definition lays along the scan, and answers its count and its price. Assumes nothing.
 use mathlib.Core.Path.{_≡_, refl, sym, ap, subst, _∙_}
 use mathlib.Core.Logic.{⊎-elim}
 use mathlib.Core.Bool.{Bool, true, false, cond}
@@ -89,7 +89,8 @@ module _ (p : Prices) (g : Scale) (side : ℕ) (block : List ℤ) (d : ℕ) (hel
   places-are = kept-places g side held sc block kept as-kept
 
   -- what holds of 0 and of every coefficient kept holds of all that is kept
-  of-kept : (P : ℕ → Type 0) → P 0 → ((k : ℕ) → g .least ≤ natAbs (at block k) → P (natAbs (at block k))) → (k : ℕ) → P (getD kept k 0)
+  of-kept : (P : ℕ → Type 0) → P 0 → ((k : ℕ) → g .least ≤ natAbs (at block k) → P (natAbs (at block k))) → (k : ℕ)
+      → P (getD kept k 0)
   of-kept P none some k =
       ⊎-elim (λ (h : k < side * side). subst P (sym (as-kept k h)) (go (leb (g .least) (natAbs (at block k))) refl))
       (λ (h : side * side ≤ k). subst P (sym (List·getD-eq-default kept 0 (omega (arith, room)))) none)
@@ -124,7 +125,8 @@ module _ (p : Prices) (g : Scale) (side : ℕ) (block : List ℤ) (d : ℕ) (hel
   kept-left : uncoded r (keptPlaces g side kept) ≤ d
   kept-left = omega (arith, ap (uncoded r) places-are, kept-uncoded g (c .sound) p (c .modest) zs, c .is)
 
-  pub findable : (levels : List ℕ) → length levels ≡ side * side → Cleared levels → Findable p g d side kept held levels n
+  pub findable : (levels : List ℕ) → length levels ≡ side * side → Cleared levels
+      → Findable p g d side kept held levels n
   findable levels e z =
       record {
         scan = sc;
@@ -174,12 +176,14 @@ module _ (p : Prices) (g : Scale) (side : ℕ) (block : List ℤ) (d : ℕ) (hel
 
     least-standing : Standing side levels (cheapest r ps)
     unfolding ks
-    least-standing = subst (Standing side levels) (found-is-cheapest r ks ∙ lighter-cheapest r ks ps lighter) (o .levels)
+    least-standing =
+        subst (Standing side levels) (found-is-cheapest r ks ∙ lighter-cheapest r ks ps lighter) (o .levels)
 
     least-price : x ≡ price r (cheapest r ps) ps
     unfolding ks
     least-price =
-        let e = some-price x (d - uncoded r ks) (price r (cheapest r ks) ks) (o .price ∙ ap (search.plus (d - uncoded r ks)) (found-price r ks)) in
+        let e = some-price x (d - uncoded r ks) (price r (cheapest r ks) ks) (o .price
+        ∙ ap (search.plus (d - uncoded r ks)) (found-price r ks)) in
         let f = lighter-price r ks ps (cheapest r ks) lighter (cheapest-allowed r ks) in
         omega (arith, e, f, kept-left, c .is, ap (λ (l : List ℕ). price r l ps) (lighter-cheapest r ks ps lighter))
 
@@ -189,25 +193,29 @@ module _ (p : Prices) (g : Scale) (side : ℕ) (block : List ℤ) (d : ℕ) (hel
 
     long : length ls ≡ side * side
     unfolding ls
-    long = length-written mode r ps ∙ length-map zs (λ z. scaled (g .q) z) ∙ length-map (scan side side) (λ k. at block k) ∙ sc .full
+    long = length-written mode r ps ∙ length-map zs (λ z. scaled (g .q) z)
+        ∙ length-map (scan side side) (λ k. at block k) ∙ sc .full
 
     chosen : (length levels ≡ side * side) × Standing side levels ls × (x ≡ price r ls ps)
     unfolding ls
     chosen = by mode o
       where
         by : (mode : Mode) → ChosenAs mode p g d side kept levels x
-            → (length levels ≡ side * side) × Standing side levels (writtenIn mode r ps) × (x ≡ price r (writtenIn mode r ps) ps)
+            → (length levels ≡ side * side) × Standing side levels (writtenIn mode r ps)
+            × (x ≡ price r (writtenIn mode r ps) ps)
         by modes.Walk o = (o .room, walk-standing levels x o, walk-price levels x o)
         by modes.Least o = (o .room, least-standing levels x o, least-price levels x o)
 
     small : (k : ℕ) → k < side * side → getD ls k 0 ≤ 32767
     unfolding ls ruleBy
     small k h =
-        let n : length ps ≡ side * side = length-map zs (λ z. scaled (g .q) z) ∙ length-map (scan side side) (λ k. at block k) ∙ sc .full in
+        let n : length ps ≡ side * side = length-map zs (λ z. scaled (g .q) z)
+        ∙ length-map (scan side side) (λ k. at block k) ∙ sc .full in
         let m : length zs ≡ side * side = length-map (scan side side) (λ k. at block k) ∙ sc .full in
         let e : getD ps k 0 ≡ scaled (g .q) (at block (getD (scan side side) k 0)) =
         map-at (pos 0) 0 (λ z. scaled (g .q) z) zs k (omega arith)
-        ∙ ap (λ (z : ℤ). scaled (g .q) z) (map-at 0 (pos 0) (λ k. at block k) (scan side side) k (omega (arith, sc .full))) in
+        ∙ ap (λ (z : ℤ). scaled (g .q) z) (map-at 0 (pos 0) (λ k. at block k) (scan side side) k
+        (omega (arith, sc .full))) in
         let a = allowed-below _ _ (zero-or-m-or-m-1 mode r ps k (omega arith)) in
         omega (arith, c .fine (getD (scan side side) k 0) .level, ap (magnitude (g .shift)) e)
 
@@ -215,7 +223,8 @@ module _ (p : Prices) (g : Scale) (side : ℕ) (block : List ℤ) (d : ℕ) (hel
     room-left = chosen .0
 
     pub level-small : (k : ℕ) → getD levels k 0 ≤ 32767
-    level-small = everywhere side held sc ls long levels room-left (chosen .1) (λ (a : ℕ). a ≤ 32767) (omega arith) small
+    level-small =
+        everywhere side held sc ls long levels room-left (chosen .1) (λ (a : ℕ). a ≤ 32767) (omega arith) small
 
     pub coded-as : (after : List ℤ) (n : ℕ) → after ≡ signs block levels → n ≡ nonzeros levels
         → CodedAs mode p g side block after (record { count = n; price = x })

@@ -24,8 +24,10 @@ coded-tells a b e f = λ i. record { count = e i; price = f i }
 -- the paper's numbers tell the answers apart
 tells : (a b : QuantAnswer) → paperOf a ≡ paperOf b → a ≡ b
 tells (answers.Coded p) (answers.Coded q) e = ap answers.Coded (coded-tells p q (cc) (cc))
-tells (answers.Coded p) (answers.Refused w k) e = absurd (let z : _≡_ {A = ℕ} 0 1 = cc in let no : ⊥ = omega arith in no)
-tells (answers.Refused w k) (answers.Coded p) e = absurd (let z : _≡_ {A = ℕ} 0 1 = cc in let no : ⊥ = omega arith in no)
+tells (answers.Coded p) (answers.Refused w k) e =
+    absurd (let z : _≡_ {A = ℕ} 0 1 = cc in let no : ⊥ = omega arith in no)
+tells (answers.Refused w k) (answers.Coded p) e =
+    absurd (let z : _≡_ {A = ℕ} 0 1 = cc in let no : ⊥ = omega arith in no)
 tells (answers.Refused w k) (answers.Refused x j) e =
     let f : w ≡ x = number-tells w x (cc) in
     let g : k ≡ j = component-tells k j (cc) in
@@ -33,7 +35,11 @@ tells (answers.Refused w k) (answers.Refused x j) e =
 
 module _ (mode : Mode) (block : List ℤ) (l : ℕ) (k : Component) (s : Settings) (slice coded : Bool) (t : Costs) where
   pub quant-fixed : (r₁ r₂ : QuantAnswer) (b₁ b₂ : List ℤ)
-      → paperOf r₁ ≡ quantAnswer (calledIn mode block l k s slice coded t) → b₁ ≡ quantBuffer (calledIn mode block l k s slice coded t)
-      → paperOf r₂ ≡ quantAnswer (calledIn mode block l k s slice coded t) → b₂ ≡ quantBuffer (calledIn mode block l k s slice coded t)
+      → paperOf r₁ ≡ quantAnswer (calledIn mode block l k s slice coded t)
+      → b₁ ≡ quantBuffer (calledIn mode block l k s slice coded t)
+      → paperOf r₂ ≡ quantAnswer (calledIn mode block l k s slice coded t)
+      → b₂ ≡ quantBuffer (calledIn mode block l k s slice coded t)
       → (r₁ ≡ r₂) × (b₁ ≡ b₂)
-  quant-fixed = coincide paperOf tells (quantAnswer (calledIn mode block l k s slice coded t)) (quantBuffer (calledIn mode block l k s slice coded t))
+  quant-fixed =
+      coincide paperOf tells (quantAnswer (calledIn mode block l k s slice coded t))
+      (quantBuffer (calledIn mode block l k s slice coded t))

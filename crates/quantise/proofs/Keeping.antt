@@ -1,11 +1,12 @@
--- Magnitudes whose m is 0 need not be kept: such a place is passed whatever stands there, so that the walk over what is kept is the
--- walk over the block, and what is kept leaves no more of D. Assumes nothing.
+-- Magnitudes whose m is 0 need not be kept: such a place is passed whatever stands there, so that the walk over what is
+-- kept is the walk over the block, and what is kept leaves no more of D. Assumes nothing.
 use mathlib.Core.Path.{_≡_, refl, sym, ap, subst, _∙_}
 use mathlib.Core.Logic.{inl, inr}
 use mathlib.Core.Bool.{Bool, true, false}
 use mathlib.Core.List.{List, [], _∷_, map}
 use Prim.Native.Nat.{ℕ, zero, suc, _+_, _-_, _*_, _/_, _^_, _≤_, _<_}
-use native.Mathlib.Nat.{mul-le-mul-right, lt-div-mul-add, div-mul-le-self, suc-mul, zero-mul, div-eq-of-lt, le-div-iff-mul-le}
+use native.Mathlib.Nat.{mul-le-mul-right, lt-div-mul-add, div-mul-le-self, suc-mul, zero-mul, div-eq-of-lt}
+use native.Mathlib.Nat.{le-div-iff-mul-le}
 use native.Mathlib.Omega.{arith}
 use lib.Dec.{leb}
 use lib.Pow.{pow-pos}
@@ -57,7 +58,16 @@ module _ (g : Scale) (s : Sound g) where
   dropped a h =
       let x : (g .half + g .q - 1) / g .q * g .q ≤ g .half + g .q - 1 = div-mul-le-self (g .half + g .q - 1) (g .q) in
       let y : suc a * g .q ≤ g .least * g .q = mul-le-mul-right (g .q) h in
-      div-eq-of-lt (omega (arith, s .half, s .unit, s .twice, suc-mul a (g .q), ap (λ (k : ℕ). k * g .q) (s .least), pow-pos (g .shift), s .some-q))
+      div-eq-of-lt (omega (
+        arith,
+        s .half,
+        s .unit,
+        s .twice,
+        suc-mul a (g .q),
+        ap (λ (k : ℕ). k * g .q) (s .least),
+        pow-pos (g .shift),
+        s .some-q,
+      ))
 
   -- a coefficient is kept as it is, or its m is 0 and nothing is kept
   data Keeps (z : ℤ) : Type 0 where
@@ -100,7 +110,8 @@ module _ (g : Scale) (s : Sound g) where
             ∙ quiet p g n w 0 (sym (top-is 0) ∙ none-top) (omega (arith, dist-is 0, nothing-uncoded p g))
             ∙ sym (quiet p g n w (scaled (g .q) z) q (omega (arith, dist-is (scaled (g .q) z))))
 
-    same-chosen : (b : Bool) (z : ℤ) → chosen (ruleBy p g) b (keptOf g z * g .q) ≡ chosen (ruleBy p g) b (scaled (g .q) z)
+    same-chosen : (b : Bool) (z : ℤ) → chosen (ruleBy p g) b (keptOf g z * g .q)
+        ≡ chosen (ruleBy p g) b (scaled (g .q) z)
     same-chosen b z = go (keeps z)
       where
         go : Keeps z → chosen (ruleBy p g) b (keptOf g z * g .q) ≡ chosen (ruleBy p g) b (scaled (g .q) z)
@@ -126,13 +137,15 @@ module _ (g : Scale) (s : Sound g) where
         ap (λ (v : Totals). walk (ruleBy p g) (suc n) v (map kept zs)) e
         ∙ same-walk (suc n) (step (ruleBy p g) n w (full z)) zs (i .0)
 
-    pub same-walked : (b : Bool) (zs : List ℤ) → walked (ruleBy p g) b (map kept zs) ≡ walked (ruleBy p g) b (map full zs)
+    pub same-walked : (b : Bool) (zs : List ℤ) → walked (ruleBy p g) b (map kept zs)
+        ≡ walked (ruleBy p g) b (map full zs)
     unfolding walked
     same-walked b [] = refl
     same-walked b (z ∷ zs) =
         let e = same-chosen b z in
         ap (λ (a : ℕ). a ∷ walked (ruleBy p g) (isZero a) (map kept zs)) e
-        ∙ ap (λ (l : List ℕ). chosen (ruleBy p g) b (full z) ∷ l) (same-walked (isZero (chosen (ruleBy p g) b (full z))) zs)
+        ∙ ap (λ (l : List ℕ). chosen (ruleBy p g) b (full z) ∷ l) (same-walked (isZero (chosen (ruleBy p g) b (full z)))
+        zs)
 
     kept-less : (z : ℤ) → (ruleBy p g) .dist (kept z) 0 ≤ (ruleBy p g) .dist (full z) 0
     kept-less z = go (keeps z)
@@ -157,7 +170,8 @@ module _ (g : Scale) (s : Sound g) where
 
 -- the places of what is kept by rows
 pub kept-places : (g : Scale) (side : ℕ) (held : List ℕ) → Scanned side held → (block : List ℤ) (kept : List ℕ)
-    → ((k : ℕ) → k < side * side → getD kept k 0 ≡ keptOf g (at block k)) → keptPlaces g side kept ≡ map (λ z. keptOf g z * g .q) (inOrder side block)
+    → ((k : ℕ) → k < side * side → getD kept k 0 ≡ keptOf g (at block k))
+    → keptPlaces g side kept ≡ map (λ z. keptOf g z * g .q) (inOrder side block)
 unfolding scanAt
 kept-places g side held sc block kept h =
     ext-getD 0 (keptPlaces g side kept) (map (λ z. keptOf g z * g .q) (inOrder side block))
@@ -169,5 +183,6 @@ kept-places g side held sc block kept h =
     map-at 0 0 (λ p. getD kept p 0 * g .q) (scan side side) k i
     ∙ ap (λ (a : ℕ). a * g .q) (h (scanAt side side k) b)
     ∙ sym
-    (map-at (pos 0) 0 (λ z. keptOf g z * g .q) (inOrder side block) k (omega (arith, length-map (scan side side) (λ p. at block p)))
+    (map-at (pos 0) 0 (λ z. keptOf g z * g .q) (inOrder side block) k
+    (omega (arith, length-map (scan side side) (λ p. at block p)))
     ∙ ap (λ (z : ℤ). keptOf g z * g .q) (map-at 0 (pos 0) (λ p. at block p) (scan side side) k i)))

@@ -1,5 +1,5 @@
--- What a buffer holds once values were laid at block places: at each place met its value, and elsewhere what it held. The places of a
--- scan are met once each, and lie inside the block, so that the surplus is not touched.
+-- What a buffer holds once values were laid at block places: at each place met its value, and elsewhere what it held.
+-- The places of a scan are met once each, and lie inside the block, so that the surplus is not touched.
 -- Assumes nothing.
 use mathlib.Core.Path.{_≡_, refl, sym, ap, _∙_}
 use mathlib.Core.Logic.{_≢_}
@@ -28,7 +28,8 @@ unfolding laid
 laid-elsewhere [] vs l q h = refl
 laid-elsewhere (p ∷ ps) [] l q h = refl
 laid-elsewhere (p ∷ ps) (v ∷ vs) l q h =
-    laid-elsewhere ps vs (set l p v) q (λ k lt. h (suc k) (omega arith)) ∙ getD-set-other l p q v (pos 0) (h 0 (omega arith))
+    laid-elsewhere ps vs (set l p v) q (λ k lt. h (suc k) (omega arith))
+    ∙ getD-set-other l p q v (pos 0) (h 0 (omega arith))
 
 -- places that are met once each
 abbrev pub Apart : List ℕ → Type 0
@@ -37,7 +38,8 @@ Apart ps = (j k : ℕ) → j < length ps → k < length ps → getD ps j 0 ≡ g
 tail-apart : (p : ℕ) (ps : List ℕ) → Apart (p ∷ ps) → Apart ps
 tail-apart p ps a j k hj hk e = let q = a (suc j) (suc k) (omega arith) (omega arith) e in omega arith
 
-pub laid-at : (ps : List ℕ) (vs l : List ℤ) (k : ℕ) → Apart ps → length vs ≡ length ps → k < length ps → getD ps k 0 < length l
+pub laid-at : (ps : List ℕ) (vs l : List ℤ) (k : ℕ) → Apart ps → length vs ≡ length ps → k < length ps
+    → getD ps k 0 < length l
     → at (laid ps vs l) (getD ps k 0) ≡ at vs k
 unfolding laid
 laid-at [] vs l k a e h b = absurd (not-suc-le-zero h)

@@ -1,4 +1,5 @@
--- Lists by their entries: a list of zeros, and what holds of each coefficient of a block holds of those of a part. Assumes nothing.
+-- Lists by their entries: a list of zeros, and what holds of each coefficient of a block holds of those of a part.
+-- Assumes nothing.
 use mathlib.Core.Path.{_≡_, refl, sym, subst, _∙_}
 use mathlib.Core.Logic.{⊎-elim}
 use mathlib.Core.List.{List}
@@ -22,7 +23,9 @@ part-short n l = simp length-take (omega arith)
 pub within-part : (l : List ℤ) (a i n : ℕ) → Within l a → Within (take n (drop i l)) a
 within-part l a i n h k =
     ⊎-elim
-    (λ (lt : k < n). subst (λ (z : ℤ). natAbs z ≤ a) (sym (getD-take n (drop i l) k (pos 0) lt ∙ getD-drop i l k (pos 0))) (h (i + k)))
+    (λ (lt : k < n). subst (λ (z : ℤ). natAbs z ≤ a) (sym (getD-take n (drop i l) k (pos 0) lt
+    ∙ getD-drop i l k (pos 0))) (h (i + k)))
     (λ (le : n ≤ k).
-    subst (λ (z : ℤ). natAbs z ≤ a) (sym (List·getD-eq-default (take n (drop i l)) (pos 0) (omega (arith, part-short n (drop i l))))) (omega arith))
+    subst (λ (z : ℤ). natAbs z ≤ a)
+    (sym (List·getD-eq-default (take n (drop i l)) (pos 0) (omega (arith, part-short n (drop i l))))) (omega arith))
     (below-or-not k n)

@@ -1,5 +1,5 @@
--- What both modes promise of the block that they write: a magnitude for each place, each 0, m or m - 1, and a price no higher than the empty
--- block's. Assumes nothing.
+-- What both modes promise of the block that they write: a magnitude for each place, each 0, m or m - 1, and a price no
+-- higher than the empty block's. Assumes nothing.
 use mathlib.Core.Path.{_≡_}
 use mathlib.Core.List.{List}
 use Prim.Native.Nat.{ℕ, _+_, _≤_, _<_}
@@ -23,6 +23,7 @@ pub zero-or-m-or-m-1 : (mode : Mode) (r : Rule) (ps : List ℕ) (k : ℕ) → k 
 zero-or-m-or-m-1 Walk r ps = written-zero-or-m-or-m-1 r ps
 zero-or-m-or-m-1 Least r ps = cheapest-zero-or-m-or-m-1 r ps
 
-pub price-at-most-empty : (mode : Mode) (r : Rule) (ps : List ℕ) → price r (writtenIn mode r ps) ps ≤ uncoded r ps + r .empty
+pub price-at-most-empty : (mode : Mode) (r : Rule) (ps : List ℕ)
+    → price r (writtenIn mode r ps) ps ≤ uncoded r ps + r .empty
 price-at-most-empty Walk r ps = written-price-at-most-empty r ps
 price-at-most-empty Least r ps = omega (arith, never-dearer-than-the-walk r ps, written-price-at-most-empty r ps)

@@ -1,6 +1,6 @@
--- The paper's numbers for the quantiser, P5 to P9, and numbers of the project's own that tell apart what those let through, computed
--- over the definitions of the call: refusal, count, price and levels, and the m that P6 names. The project's own were
--- worked out by a program that shares nothing with these definitions.
+-- The paper's numbers for the quantiser, P5 to P9, and numbers of the project's own that tell apart what those let
+-- through, computed over the definitions of the call: refusal, count, price and levels, and the m that P6 names. The
+-- project's own were worked out by a program that shares nothing with these definitions.
 -- Assumes nothing.
 use mathlib.Core.Path.{_≡_, refl}
 use mathlib.Core.Bool.{Bool, true, false}
@@ -62,7 +62,8 @@ high = fin false 1 (negsuc 5)
 abbrev pub Numbers : Type 0
 Numbers =
     -- P5, with a surplus behind the block
-    Gives (small usual true (p 20 ∷ p 7 ∷ p 0 ∷ p 0 ∷ p 9 ∷ m 9 ∷ [])) 1 22282240 (p 1 ∷ p 0 ∷ p 0 ∷ p 0 ∷ p 9 ∷ m 9 ∷ [])
+    Gives (small usual true (p 20 ∷ p 7 ∷ p 0 ∷ p 0 ∷ p 9 ∷ m 9 ∷ [])) 1 22282240 (p 1 ∷ p 0 ∷ p 0 ∷ p 0 ∷ p 9 ∷ m 9
+    ∷ [])
     -- P6, whose m is 2
     × (rounded (small usual true (m 24 ∷ p 0 ∷ p 0 ∷ p 0 ∷ [])) 0 ≡ 2)
     × Gives (small usual true (m 24 ∷ p 0 ∷ p 0 ∷ p 0 ∷ [])) 1 22020096 (m 1 ∷ p 0 ∷ p 0 ∷ p 0 ∷ [])
@@ -86,55 +87,76 @@ pub own :
     -- ties prefer 0, then m
     Gives
     (called (p 24 ∷ p 8 ∷ p 40 ∷ p 24 ∷ []) 1 U (at 4 (parts 0)) false false
-    (tables (1 ∷ 1 ∷ 0 ∷ 0 ∷ 1 ∷ 0 ∷ 1 ∷ 0 ∷ []) (0 ∷ 1 ∷ 2 ∷ 0 ∷ 1 ∷ 0 ∷ 0 ∷ 0 ∷ []) (0 ∷ 2 ∷ 0 ∷ 1 ∷ []) (0 ∷ 2 ∷ 2 ∷ 0 ∷ 2 ∷ 0 ∷ 0 ∷ 0 ∷ [])))
+    (tables (1 ∷ 1 ∷ 0 ∷ 0 ∷ 1 ∷ 0 ∷ 1 ∷ 0 ∷ []) (0 ∷ 1 ∷ 2 ∷ 0 ∷ 1 ∷ 0 ∷ 0 ∷ 0 ∷ []) (0 ∷ 2 ∷ 0 ∷ 1 ∷ []) (0 ∷ 2 ∷ 2
+    ∷ 0 ∷ 2 ∷ 0 ∷ 0 ∷ 0 ∷ [])))
     3 67108864 (p 2 ∷ p 0 ∷ p 3 ∷ p 2 ∷ [])
     -- at equal price the earlier cut wins
     × Gives
     (called (p 0 ∷ p 20 ∷ m 16 ∷ p 10 ∷ []) 1 Y (at 4 (parts 512)) true false
-    (tables (0 ∷ 2 ∷ 0 ∷ 0 ∷ 0 ∷ 0 ∷ 0 ∷ 0 ∷ []) (0 ∷ 0 ∷ 1 ∷ 0 ∷ 0 ∷ 0 ∷ 1 ∷ 0 ∷ []) (0 ∷ 0 ∷ 0 ∷ 1 ∷ []) (1 ∷ 0 ∷ 0 ∷ 0 ∷ 1 ∷ 2 ∷ 2 ∷ 1 ∷ [])))
+    (tables (0 ∷ 2 ∷ 0 ∷ 0 ∷ 0 ∷ 0 ∷ 0 ∷ 0 ∷ []) (0 ∷ 0 ∷ 1 ∷ 0 ∷ 0 ∷ 0 ∷ 1 ∷ 0 ∷ []) (0 ∷ 0 ∷ 0 ∷ 1 ∷ []) (1 ∷ 0 ∷ 0
+    ∷ 0 ∷ 1 ∷ 2 ∷ 2 ∷ 1 ∷ [])))
     2 63964160 (p 0 ∷ p 1 ∷ m 1 ∷ p 0 ∷ [])
     -- at equal price the empty block wins
     × Gives
     (called (p 7 ∷ p 20 ∷ p 8 ∷ m 8 ∷ []) 1 Y (at 10 (parts 512)) true false
-    (tables (2 ∷ 16384 ∷ 0 ∷ 8192 ∷ 32768 ∷ 32768 ∷ 2 ∷ 32768 ∷ []) (65536 ∷ 0 ∷ 8192 ∷ 8192 ∷ 32768 ∷ 8192 ∷ 8192 ∷ 65536 ∷ []) (32768 ∷ 8192 ∷ 65536 ∷ 2 ∷ []) (0 ∷ 8192 ∷ 16384 ∷ 8192 ∷ 2 ∷ 32768 ∷ 0 ∷ 65536 ∷ [])))
+    (tables (2 ∷ 16384 ∷ 0 ∷ 8192 ∷ 32768 ∷ 32768 ∷ 2 ∷ 32768 ∷ []) (65536 ∷ 0 ∷ 8192 ∷ 8192 ∷ 32768 ∷ 8192 ∷ 8192
+    ∷ 65536 ∷ []) (32768 ∷ 8192 ∷ 65536 ∷ 2 ∷ []) (0 ∷ 8192 ∷ 16384 ∷ 8192 ∷ 2 ∷ 32768 ∷ 0 ∷ 65536 ∷ [])))
     0 151257088 (p 0 ∷ p 0 ∷ p 0 ∷ p 0 ∷ [])
     -- the first place counts as after a nonzero level; luma that is not intra-coded reads cbf all
     × Gives
     (called (p 7 ∷ p 24 ∷ p 24 ∷ p 8 ∷ []) 1 Y (at 4 (parts 4)) false false
-    (tables (16384 ∷ 1 ∷ 32768 ∷ 0 ∷ 0 ∷ 0 ∷ 16384 ∷ 0 ∷ []) (2 ∷ 0 ∷ 0 ∷ 32768 ∷ 32768 ∷ 0 ∷ 2 ∷ 0 ∷ []) (32768 ∷ 0 ∷ 0 ∷ 2 ∷ []) (0 ∷ 32768 ∷ 0 ∷ 2 ∷ 0 ∷ 1 ∷ 8192 ∷ 32768 ∷ [])))
+    (tables (16384 ∷ 1 ∷ 32768 ∷ 0 ∷ 0 ∷ 0 ∷ 16384 ∷ 0 ∷ []) (2 ∷ 0 ∷ 0 ∷ 32768 ∷ 32768 ∷ 0 ∷ 2 ∷ 0 ∷ []) (32768 ∷ 0 ∷ 0
+    ∷ 2 ∷ []) (0 ∷ 32768 ∷ 0 ∷ 2 ∷ 0 ∷ 1 ∷ 8192 ∷ 32768 ∷ [])))
     2 63897604 (p 0 ∷ p 2 ∷ p 2 ∷ p 0 ∷ [])
     -- a negative error is dropped downwards
     × Gives
     (called (p 24 ∷ p 20 ∷ m 24 ∷ p 20 ∷ []) 1 «V» (at 0 (parts 1)) true false
-    (tables (0 ∷ 1 ∷ 0 ∷ 1 ∷ 1 ∷ 0 ∷ 0 ∷ 0 ∷ []) (1 ∷ 0 ∷ 0 ∷ 0 ∷ 0 ∷ 0 ∷ 0 ∷ 0 ∷ []) (0 ∷ 0 ∷ 1 ∷ 0 ∷ []) (0 ∷ 1 ∷ 1 ∷ 0 ∷ 0 ∷ 0 ∷ 1 ∷ 2 ∷ [])))
+    (tables (0 ∷ 1 ∷ 0 ∷ 1 ∷ 1 ∷ 0 ∷ 0 ∷ 0 ∷ []) (1 ∷ 0 ∷ 0 ∷ 0 ∷ 0 ∷ 0 ∷ 0 ∷ 0 ∷ []) (0 ∷ 0 ∷ 1 ∷ 0 ∷ []) (0 ∷ 1 ∷ 1
+    ∷ 0 ∷ 0 ∷ 0 ∷ 1 ∷ 2 ∷ [])))
     4 8511501 (p 2 ∷ p 2 ∷ m 2 ∷ p 2 ∷ [])
     -- the skip goes by the threshold, not by m
     × Gives
     (called (m 16 ∷ m 8 ∷ m 16 ∷ p 8 ∷ []) 1 «V» (at 10 (parts 0)) false true
-    (tables (32768 ∷ 16384 ∷ 8192 ∷ 0 ∷ 0 ∷ 2 ∷ 0 ∷ 0 ∷ []) (8192 ∷ 8192 ∷ 0 ∷ 1 ∷ 8192 ∷ 1 ∷ 32768 ∷ 8192 ∷ []) (32768 ∷ 1 ∷ 65536 ∷ 16384 ∷ []) (0 ∷ 8192 ∷ 0 ∷ 1 ∷ 32768 ∷ 0 ∷ 8192 ∷ 0 ∷ [])))
+    (tables (32768 ∷ 16384 ∷ 8192 ∷ 0 ∷ 0 ∷ 2 ∷ 0 ∷ 0 ∷ []) (8192 ∷ 8192 ∷ 0 ∷ 1 ∷ 8192 ∷ 1 ∷ 32768 ∷ 8192 ∷ [])
+    (32768 ∷ 1 ∷ 65536 ∷ 16384 ∷ []) (0 ∷ 8192 ∷ 0 ∷ 1 ∷ 32768 ∷ 0 ∷ 8192 ∷ 0 ∷ [])))
     0 0 (p 0 ∷ p 0 ∷ p 0 ∷ p 0 ∷ [])
     -- Cr reads chroma's rows and its own cbf
     × Gives
     (called (m 40 ∷ p 12 ∷ p 8 ∷ m 16 ∷ []) 1 «V» (at 10 (parts 1)) false false
-    (tables (65536 ∷ 32768 ∷ 16384 ∷ 65536 ∷ 65536 ∷ 16384 ∷ 8192 ∷ 2 ∷ []) (1 ∷ 2 ∷ 0 ∷ 8192 ∷ 65536 ∷ 16384 ∷ 65536 ∷ 8192 ∷ []) (0 ∷ 0 ∷ 32768 ∷ 1 ∷ []) (16384 ∷ 1 ∷ 65536 ∷ 32768 ∷ 0 ∷ 0 ∷ 16384 ∷ 16384 ∷ [])))
+    (tables (65536 ∷ 32768 ∷ 16384 ∷ 65536 ∷ 65536 ∷ 16384 ∷ 8192 ∷ 2 ∷ []) (1 ∷ 2 ∷ 0 ∷ 8192 ∷ 65536 ∷ 16384 ∷ 65536
+    ∷ 8192 ∷ []) (0 ∷ 0 ∷ 32768 ∷ 1 ∷ []) (16384 ∷ 1 ∷ 65536 ∷ 32768 ∷ 0 ∷ 0 ∷ 16384 ∷ 16384 ∷ [])))
     1 138592257 (m 1 ∷ p 0 ∷ p 0 ∷ p 0 ∷ [])
     -- Cb reads chroma's rows and its own cbf
     × Gives
     (called (m 40 ∷ p 12 ∷ p 8 ∷ m 16 ∷ []) 1 U (at 10 (parts 1)) false false
-    (tables (65536 ∷ 32768 ∷ 16384 ∷ 65536 ∷ 65536 ∷ 16384 ∷ 8192 ∷ 2 ∷ []) (1 ∷ 2 ∷ 0 ∷ 8192 ∷ 65536 ∷ 16384 ∷ 65536 ∷ 8192 ∷ []) (0 ∷ 0 ∷ 32768 ∷ 1 ∷ []) (16384 ∷ 1 ∷ 65536 ∷ 32768 ∷ 0 ∷ 0 ∷ 16384 ∷ 16384 ∷ [])))
+    (tables (65536 ∷ 32768 ∷ 16384 ∷ 65536 ∷ 65536 ∷ 16384 ∷ 8192 ∷ 2 ∷ []) (1 ∷ 2 ∷ 0 ∷ 8192 ∷ 65536 ∷ 16384 ∷ 65536
+    ∷ 8192 ∷ []) (0 ∷ 0 ∷ 32768 ∷ 1 ∷ []) (16384 ∷ 1 ∷ 65536 ∷ 32768 ∷ 0 ∷ 0 ∷ 16384 ∷ 16384 ∷ [])))
     1 138575873 (m 1 ∷ p 0 ∷ p 0 ∷ p 0 ∷ [])
     -- the walk is cut
     × Gives
     (called (p 0 ∷ p 8 ∷ p 7 ∷ p 16 ∷ []) 1 Y (at 0 (parts 512)) true true
-    (tables (1 ∷ 0 ∷ 65536 ∷ 65536 ∷ 32768 ∷ 8192 ∷ 1 ∷ 32768 ∷ []) (16384 ∷ 32768 ∷ 16384 ∷ 0 ∷ 16384 ∷ 0 ∷ 16384 ∷ 16384 ∷ []) (32768 ∷ 0 ∷ 2 ∷ 0 ∷ []) (8192 ∷ 8192 ∷ 16384 ∷ 0 ∷ 32768 ∷ 32768 ∷ 0 ∷ 16384 ∷ [])))
+    (tables (1 ∷ 0 ∷ 65536 ∷ 65536 ∷ 32768 ∷ 8192 ∷ 1 ∷ 32768 ∷ []) (16384 ∷ 32768 ∷ 16384 ∷ 0 ∷ 16384 ∷ 0 ∷ 16384
+    ∷ 16384 ∷ []) (32768 ∷ 0 ∷ 2 ∷ 0 ∷ []) (8192 ∷ 8192 ∷ 16384 ∷ 0 ∷ 32768 ∷ 32768 ∷ 0 ∷ 16384 ∷ [])))
     0 105088003 (p 0 ∷ p 0 ∷ p 0 ∷ p 0 ∷ [])
     -- m - 1 is tried
     × Gives
     (called (p 10 ∷ m 40 ∷ p 40 ∷ p 7 ∷ []) 1 Y (at 4 (parts 32)) false true
-    (tables (32768 ∷ 8192 ∷ 1 ∷ 0 ∷ 2 ∷ 0 ∷ 1 ∷ 8192 ∷ []) (0 ∷ 1 ∷ 2 ∷ 8192 ∷ 8192 ∷ 2 ∷ 8192 ∷ 65536 ∷ []) (1 ∷ 8192 ∷ 16384 ∷ 0 ∷ []) (8192 ∷ 0 ∷ 0 ∷ 0 ∷ 2 ∷ 65536 ∷ 2 ∷ 65536 ∷ [])))
+    (tables (32768 ∷ 8192 ∷ 1 ∷ 0 ∷ 2 ∷ 0 ∷ 1 ∷ 8192 ∷ []) (0 ∷ 1 ∷ 2 ∷ 8192 ∷ 8192 ∷ 2 ∷ 8192 ∷ 65536 ∷ []) (1 ∷ 8192
+    ∷ 16384 ∷ 0 ∷ []) (8192 ∷ 0 ∷ 0 ∷ 0 ∷ 2 ∷ 65536 ∷ 2 ∷ 65536 ∷ [])))
     3 62390528 (p 1 ∷ m 2 ∷ p 2 ∷ p 0 ∷ [])
 unfolding calledIn quantAnswer quantBuffer
-own = ((refl, refl), (refl, refl), (refl, refl), (refl, refl), (refl, refl), (refl, refl), (refl, refl), (refl, refl), (refl, refl), (refl, refl))
+own = (
+  (refl, refl),
+  (refl, refl),
+  (refl, refl),
+  (refl, refl),
+  (refl, refl),
+  (refl, refl),
+  (refl, refl),
+  (refl, refl),
+  (refl, refl),
+  (refl, refl),
+)
 
 -- the cheapest block of all, beside the walk's of the same call
 abbrev Both : (Mode → Quant) → (walks finds : Quant → Type 0) → Type 0
@@ -144,25 +166,29 @@ pub least :
     -- it keeps two levels more than the walk, and is cheaper
     Both
     (λ mode. calledIn mode (p 7 ∷ p 7 ∷ p 24 ∷ p 0 ∷ []) 1 «V» (at 0 (parts 512)) true false
-    (tables (32768 ∷ 1 ∷ 8192 ∷ 2 ∷ 0 ∷ 0 ∷ 65536 ∷ 0 ∷ []) (32768 ∷ 1 ∷ 8192 ∷ 2 ∷ 2 ∷ 1 ∷ 2 ∷ 16384 ∷ []) (8192 ∷ 16384 ∷ 1 ∷ 1 ∷ []) (1 ∷ 1 ∷ 1 ∷ 0 ∷ 32768 ∷ 16384 ∷ 8192 ∷ 32768 ∷ [])))
+    (tables (32768 ∷ 1 ∷ 8192 ∷ 2 ∷ 0 ∷ 0 ∷ 65536 ∷ 0 ∷ []) (32768 ∷ 1 ∷ 8192 ∷ 2 ∷ 2 ∷ 1 ∷ 2 ∷ 16384 ∷ [])
+    (8192 ∷ 16384 ∷ 1 ∷ 1 ∷ []) (1 ∷ 1 ∷ 1 ∷ 0 ∷ 32768 ∷ 16384 ∷ 8192 ∷ 32768 ∷ [])))
     (λ c. Gives c 1 96976899 (p 0 ∷ p 0 ∷ p 2 ∷ p 0 ∷ []))
     (λ c. Gives c 3 76028931 (p 1 ∷ p 1 ∷ p 2 ∷ p 0 ∷ []))
     -- it is as dear, and earlier in dictionary order: 0 before m
     × Both
     (λ mode. calledIn mode (m 24 ∷ p 12 ∷ p 20 ∷ p 20 ∷ []) 1 U (at 10 (parts 512)) false true
-    (tables (0 ∷ 0 ∷ 0 ∷ 0 ∷ 65536 ∷ 8192 ∷ 8192 ∷ 0 ∷ []) (2 ∷ 65536 ∷ 2 ∷ 0 ∷ 16384 ∷ 1 ∷ 1 ∷ 32768 ∷ []) (1 ∷ 32768 ∷ 32768 ∷ 16384 ∷ []) (32768 ∷ 16384 ∷ 1 ∷ 16384 ∷ 2 ∷ 1 ∷ 2 ∷ 65536 ∷ [])))
+    (tables (0 ∷ 0 ∷ 0 ∷ 0 ∷ 65536 ∷ 8192 ∷ 8192 ∷ 0 ∷ []) (2 ∷ 65536 ∷ 2 ∷ 0 ∷ 16384 ∷ 1 ∷ 1 ∷ 32768 ∷ []) (1 ∷ 32768
+    ∷ 32768 ∷ 16384 ∷ []) (32768 ∷ 16384 ∷ 1 ∷ 16384 ∷ 2 ∷ 1 ∷ 2 ∷ 65536 ∷ [])))
     (λ c. Gives c 2 314573312 (m 1 ∷ p 0 ∷ p 1 ∷ p 0 ∷ []))
     (λ c. Gives c 2 314573312 (m 1 ∷ p 0 ∷ p 0 ∷ p 1 ∷ []))
     -- m - 1 before m
     × Both
     (λ mode. calledIn mode (p 8 ∷ m 24 ∷ p 20 ∷ p 7 ∷ []) 1 Y (at 4 (parts 4)) false false
-    (tables (65536 ∷ 8192 ∷ 2 ∷ 1 ∷ 8192 ∷ 16384 ∷ 65536 ∷ 1 ∷ []) (16384 ∷ 8192 ∷ 8192 ∷ 32768 ∷ 32768 ∷ 2 ∷ 8192 ∷ 2 ∷ []) (2 ∷ 8192 ∷ 8192 ∷ 1 ∷ []) (0 ∷ 8192 ∷ 65536 ∷ 16384 ∷ 1 ∷ 32768 ∷ 8192 ∷ 65536 ∷ [])))
+    (tables (65536 ∷ 8192 ∷ 2 ∷ 1 ∷ 8192 ∷ 16384 ∷ 65536 ∷ 1 ∷ []) (16384 ∷ 8192 ∷ 8192 ∷ 32768 ∷ 32768 ∷ 2 ∷ 8192 ∷ 2
+    ∷ []) (2 ∷ 8192 ∷ 8192 ∷ 1 ∷ []) (0 ∷ 8192 ∷ 65536 ∷ 16384 ∷ 1 ∷ 32768 ∷ 8192 ∷ 65536 ∷ [])))
     (λ c. Gives c 2 51347472 (p 0 ∷ m 2 ∷ p 1 ∷ p 0 ∷ []))
     (λ c. Gives c 2 51347472 (p 0 ∷ m 1 ∷ p 1 ∷ p 0 ∷ []))
     -- ending before going on
     × Both
     (λ mode. calledIn mode (p 8 ∷ m 16 ∷ m 40 ∷ p 8 ∷ []) 1 «V» (at 4 (parts 0)) true false
-    (tables (1 ∷ 0 ∷ 32768 ∷ 0 ∷ 8192 ∷ 1 ∷ 16384 ∷ 65536 ∷ []) (0 ∷ 0 ∷ 8192 ∷ 8192 ∷ 16384 ∷ 32768 ∷ 32768 ∷ 0 ∷ []) (0 ∷ 32768 ∷ 65536 ∷ 8192 ∷ []) (32768 ∷ 8192 ∷ 0 ∷ 65536 ∷ 2 ∷ 32768 ∷ 2 ∷ 16384 ∷ [])))
+    (tables (1 ∷ 0 ∷ 32768 ∷ 0 ∷ 8192 ∷ 1 ∷ 16384 ∷ 65536 ∷ []) (0 ∷ 0 ∷ 8192 ∷ 8192 ∷ 16384 ∷ 32768 ∷ 32768 ∷ 0 ∷ [])
+    (0 ∷ 32768 ∷ 65536 ∷ 8192 ∷ []) (32768 ∷ 8192 ∷ 0 ∷ 65536 ∷ 2 ∷ 32768 ∷ 2 ∷ 16384 ∷ [])))
     (λ c. Gives c 2 50331648 (p 0 ∷ m 1 ∷ m 3 ∷ p 0 ∷ []))
     (λ c. Gives c 2 50331648 (p 0 ∷ m 1 ∷ m 2 ∷ p 0 ∷ []))
     -- the quick skip goes first in both
@@ -170,7 +196,13 @@ pub least :
     (λ c. Gives c 0 0 (p 0 ∷ p 0 ∷ p 0 ∷ p 0 ∷ []))
     (λ c. Gives c 0 0 (p 0 ∷ p 0 ∷ p 0 ∷ p 0 ∷ []))
 unfolding calledIn quantAnswer quantBuffer
-least = (((refl, refl), (refl, refl)), ((refl, refl), (refl, refl)), ((refl, refl), (refl, refl)), ((refl, refl), (refl, refl)), ((refl, refl), (refl, refl)))
+least = (
+  ((refl, refl), (refl, refl)),
+  ((refl, refl), (refl, refl)),
+  ((refl, refl), (refl, refl)),
+  ((refl, refl), (refl, refl)),
+  ((refl, refl), (refl, refl)),
+)
 
 -- several faults at once: the first of the list decides, and names the component where it belongs to one
 pub order :

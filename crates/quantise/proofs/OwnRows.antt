@@ -1,5 +1,6 @@
--- What a block is coded to depends on the cost tables only through the rows of its component: calls that differ in nothing but the
--- other rows have the same count, price and levels. The three-component call needs it to show that luma depends on no chroma cost.
+-- What a block is coded to depends on the cost tables only through the rows of its component: calls that differ in
+-- nothing but the other rows have the same count, price and levels. The three-component call needs it to show that luma
+-- depends on no chroma cost.
 -- Assumes nothing.
 use mathlib.Core.Path.{_≡_, refl}
 use mathlib.Core.Bool.{Bool}
@@ -12,7 +13,8 @@ use Rattle.price.specs.declared.Settings.{Settings}
 use Rattle.price.specs.Costs.{Rows, entry, runRow, rate}
 use Rattle.rule.specs.Rows.{rowsOf}
 use Rattle.quantise.specs.declared.Mode.{Mode}
-use Rattle.quantise.specs.Block.{Quant, coding, scaleHere, shiftHere, sideOf, lambdaHere, ruleOf, blockPlaces, scanned, places, isSkipped, magnitudes, countOf, priceOf, quantised}
+use Rattle.quantise.specs.Block.{Quant, coding, scaleHere, shiftHere, sideOf, lambdaHere, ruleOf, blockPlaces}
+use Rattle.quantise.specs.Block.{scanned, places, isSkipped, magnitudes, countOf, priceOf, quantised}
 
 -- the pair of a row is the same
 abbrev pub SamePair : List ℕ → List ℕ → ℕ → Type 0
@@ -25,7 +27,8 @@ pub record SameRows (rows : Rows) (a b : Costs) : Type 0 where
   pub last : SamePair (a .last) (b .last) (rows .last)
   pub cbf : SamePair (a .cbf) (b .cbf) (rows .cbf)
 
-rate-same : (sign : ℕ) (rows : Rows) (a b : Costs) → SameRows rows a b → (z : Bool) (n : ℕ) → rate sign a rows z n ≡ rate sign b rows z n
+rate-same : (sign : ℕ) (rows : Rows) (a b : Costs) → SameRows rows a b → (z : Bool) (n : ℕ)
+    → rate sign a rows z n ≡ rate sign b rows z n
 unfolding rate
 rate-same sign rows a b same z zero = same .run z .1
 rate-same sign rows a b same z (suc zero) = rw (same .run z .0, same .level .0)

@@ -1,5 +1,6 @@
--- Demand 3 of the call itself, over its buffer at entry and at exit: what a level is, that what is reported is the count and the price
--- of the levels left in the buffer, and which blocks are skipped; then, by the mode, that no cut of the walk is cheaper, or no block at all.
+-- Demand 3 of the call itself, over its buffer at entry and at exit: what a level is, that what is reported is the
+-- count and the price of the levels left in the buffer, and which blocks are skipped; then, by the mode, that no cut of
+-- the walk is cheaper, or no block at all.
 -- Assumes nothing.
 use mathlib.Core.Path.{_≡_, refl, sym, _∙_, ap, subst}
 use mathlib.Core.Logic.{_⊎_, inl, inr, ⊎-elim}
@@ -31,7 +32,8 @@ use Rattle.price.proofs.Blocks.{Block}
 use Rattle.price.proofs.Cheapest.{none-cheaper, none-earlier, never-dearer-than-the-walk}
 use Rattle.quantise.specs.declared.Mode.{Mode}
 use Rattle.quantise.specs.declared.Mode.the-variants.{Walk, Least}
-use Rattle.quantise.specs.Block.{Quant, area, scaleHere, shiftHere, ruleOf, blockPlaces, scanned, places, isSkipped, writtenIn, magnitudes, signs, priceOf, quantised}
+use Rattle.quantise.specs.Block.{Quant, area, scaleHere, shiftHere, ruleOf, blockPlaces, scanned, places}
+use Rattle.quantise.specs.Block.{isSkipped, writtenIn, magnitudes, signs, priceOf, quantised}
 use Rattle.quantise.specs.Call.{coded, quantVerdict, quantAnswer, quantBuffer}
 use Rattle.quantise.proofs.Modes.{length-written, zero-or-m-or-m-1}
 use Rattle.quantise.proofs.Laid.{laid-on-scan, surplus-kept}
@@ -53,7 +55,8 @@ signs-length [] ms e = refl
 signs-length (c ∷ cs) [] e = absurd (let z : ⊥ = omega arith in z)
 signs-length (c ∷ cs) (m ∷ ms) e = ap suc (signs-length cs ms (omega arith))
 
-signs-at : (cs : List ℤ) (ms : List ℕ) (k : ℕ) → length cs ≡ length ms → k < length cs → at (signs cs ms) k ≡ signed (at cs k) (getD ms k 0)
+signs-at : (cs : List ℤ) (ms : List ℕ) (k : ℕ) → length cs ≡ length ms → k < length cs
+    → at (signs cs ms) k ≡ signed (at cs k) (getD ms k 0)
 unfolding signs
 signs-at [] ms k e h = absurd (not-suc-le-zero h)
 signs-at (c ∷ cs) [] k e h = absurd (let z : ⊥ = omega arith in z)
@@ -116,7 +119,8 @@ module _ (c : Quant) (ok : quantVerdict c ≡ accepted) where
   after = rw ok
 
   -- the level at a scan place
-  level-is : (p : ℕ) → p < area c → at (quantBuffer c) (placeOf c p) ≡ signed (at (c .buffer) (placeOf c p)) (getD (magnitudes c) p 0)
+  level-is : (p : ℕ) → p < area c → at (quantBuffer c) (placeOf c p)
+      ≡ signed (at (c .buffer) (placeOf c p)) (getD (magnitudes c) p 0)
   unfolding quantised blockPlaces area
   level-is p h =
       let e = scanned-count ∙ sym magnitudes-count in
@@ -153,13 +157,15 @@ module _ (c : Quant) (ok : quantVerdict c ≡ accepted) where
     -- a level is 0 or has its coefficient's sign, with magnitude m or m - 1
     pub level-zero-or-signed-m-or-m-1 : (p : ℕ) → p < area c
         → (let v = at (quantBuffer c) (placeOf c p) in
-        (v ≡ pos 0) ⊎ ((nonNeg v ≡ nonNeg (at (c .buffer) (placeOf c p))) × ((natAbs v ≡ rounded c p) ⊎ (suc (natAbs v) ≡ rounded c p))))
+        (v ≡ pos 0) ⊎ ((nonNeg v ≡ nonNeg (at (c .buffer) (placeOf c p)))
+        × ((natAbs v ≡ rounded c p) ⊎ (suc (natAbs v) ≡ rounded c p))))
     unfolding ruleOf
     level-zero-or-signed-m-or-m-1 p h =
         let a = getD (magnitudes c) p 0 in
         let m : Allowed (rounded c p) a =
         subst (λ (l : List ℕ). Allowed (rounded c p) (getD l p 0)) (sym written-magnitudes)
-        (subst (λ (L : ℕ). Allowed (magnitude (shiftHere c) L) (getD (writtenIn (c .mode) (ruleOf c) (places c)) p 0)) (L-at p h)
+        (subst (λ (L : ℕ). Allowed (magnitude (shiftHere c) L) (getD (writtenIn (c .mode) (ruleOf c) (places c)) p 0))
+        (L-at p h)
         (zero-or-m-or-m-1 (c .mode) (ruleOf c) (places c) p (omega (arith, L-count)))) in
         rw (level-is p h) (level-of (at (c .buffer) (placeOf c p)) (rounded c p) a m)
 
@@ -226,7 +232,8 @@ module _ (c : Quant) (ok : quantVerdict c ≡ accepted) where
   unfolding quantised blockPlaces area
   surplus-unchanged =
       ap (λ (l : List ℤ). drop (area c) l) after
-      ∙ surplus-kept (2 ^ c .lw) (2 ^ c .lh) (one-le-pow _ _ (lit≤ tt)) (one-le-pow _ _ (lit≤ tt)) (signs (scanned c) (magnitudes c)) (c .buffer)
+      ∙ surplus-kept (2 ^ c .lw) (2 ^ c .lh) (one-le-pow _ _ (lit≤ tt)) (one-le-pow _ _ (lit≤ tt))
+      (signs (scanned c) (magnitudes c)) (c .buffer)
 
   abbrev limit : ℕ
   limit = threshold (c .intraSlice) (shiftHere c)
@@ -235,14 +242,16 @@ module _ (c : Quant) (ok : quantVerdict c ≡ accepted) where
   unfolding isSkipped
   skipped-if-all-below h =
       ap not
-      (passed-by-none 0 (λ L. leb limit L) (places c) (λ p l. lt-leb limit (getD (places c) p 0) (h p (omega (arith, L-count)))))
+      (passed-by-none 0 (λ L. leb limit L) (places c)
+      (λ p l. lt-leb limit (getD (places c) p 0) (h p (omega (arith, L-count)))))
 
   module _ (skips : isSkipped c ≡ true) where
     pub all-below-if-skipped : (p : ℕ) → p < area c → getD (places c) p 0 < limit
     unfolding isSkipped
     all-below-if-skipped p h =
         leb-false limit (getD (places c) p 0)
-        (none-passes 0 (λ L. leb limit L) (places c) (not-true (some (λ L. leb limit L) (places c)) skips) p (omega (arith, L-count)))
+        (none-passes 0 (λ L. leb limit L) (places c) (not-true (some (λ L. leb limit L) (places c)) skips) p
+        (omega (arith, L-count)))
 
     skipped-magnitudes : magnitudes c ≡ map (λ L. 0) (places c)
     unfolding magnitudes

@@ -1,5 +1,5 @@
--- The largest magnitude of some coefficients tells whether one of them reaches a threshold, and has their largest m: both only grow with
--- the magnitude. Assumes nothing.
+-- The largest magnitude of some coefficients tells whether one of them reaches a threshold, and has their largest m:
+-- both only grow with the magnitude. Assumes nothing.
 use mathlib.Core.Path.{_≡_, refl, sym, ap, _∙_}
 use mathlib.Core.Logic.{⊎-elim}
 use mathlib.Core.Bool.{Bool, true, false, _||_}
@@ -46,7 +46,8 @@ pub reaches : (t q : ℕ) → 1 ≤ t → (l : List ℤ) → over onOr (λ z. le
 unfolding over scaled
 reaches t q h [] = sym (lt-leb t (0 * q) (omega arith))
 reaches t q h (z ∷ zs) =
-    ap (λ (b : Bool). leb t (natAbs z * q) || b) (reaches t q h zs) ∙ larger-reaches t q (natAbs z) (over onMax natAbs zs)
+    ap (λ (b : Bool). leb t (natAbs z * q) || b) (reaches t q h zs)
+    ∙ larger-reaches t q (natAbs z) (over onMax natAbs zs)
 
 -- -32768 reaches every threshold
 pub lowest-reaches : (t q : ℕ) → t ≤ 32768 * q → (l : List ℤ) → some (λ z. leb t (scaled q z)) l ≡ false
@@ -88,9 +89,11 @@ largest-is b q h (z ∷ zs) =
         ⊎-elim
         (λ (h : x < y).
         let le : x ≤ y = omega arith in
-        max-eq-right (magnitude-grows b (x * q) (y * q) (mul-le-mul-right q le)) ∙ ap (λ (m : ℕ). magnitude b (m * q)) (sym (max-eq-right le)))
+        max-eq-right (magnitude-grows b (x * q) (y * q) (mul-le-mul-right q le))
+        ∙ ap (λ (m : ℕ). magnitude b (m * q)) (sym (max-eq-right le)))
         (λ (h : y ≤ x).
-        max-eq-left (magnitude-grows b (y * q) (x * q) (mul-le-mul-right q h)) ∙ ap (λ (m : ℕ). magnitude b (m * q)) (sym (max-eq-left h)))
+        max-eq-left (magnitude-grows b (y * q) (x * q) (mul-le-mul-right q h))
+        ∙ ap (λ (m : ℕ). magnitude b (m * q)) (sym (max-eq-left h)))
         (below-or-not x y)
 
 -- every magnitude is at most the largest

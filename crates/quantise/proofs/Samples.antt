@@ -1,5 +1,5 @@
--- A coefficient as the machine holds it, in 16 bits: a magnitude with its sign put back, and the one coefficient, -32768, that has no
--- negation there. Assumes nothing.
+-- A coefficient as the machine holds it, in 16 bits: a magnitude with its sign put back, and the one coefficient,
+-- -32768, that has no negation there. Assumes nothing.
 use mathlib.Core.Path.{_≡_, refl, sym, ap, _∙_}
 use mathlib.Core.Bool.{Bool, true, false, true≢false, _||_}
 use Prim.Native.Nat.{ℕ, zero, suc, _≤_, _<_, max}
@@ -36,7 +36,8 @@ module _ (z : ℤ) (a : ℕ) (f : SFits w16 z) (h : a ≤ 32767) where
   positive (pos n) t = refl
   positive (negsuc n) t = absurd (true≢false t)
 
-  pub put-minus : ltZ (toZ w16 (ofZ w16 z)) (pos 0) ≡ true → toZ w16 (ofZ w16 (pos 0 -ℤ toZ w16 (ofZ w16 (pos a)))) ≡ signed z a
+  pub put-minus : ltZ (toZ w16 (ofZ w16 z)) (pos 0) ≡ true → toZ w16 (ofZ w16 (pos 0 -ℤ toZ w16 (ofZ w16 (pos a))))
+      ≡ signed z a
   put-minus t =
       toZ-ofZ minus-fits
       ∙ rw (toZ-ofZ {w = w16} {z = pos a} fits-up, +ℤ-idl) (sym (negative z (rw (toZ-ofZ {w = w16} {z = z} f) at t)))
@@ -63,7 +64,8 @@ is-lowest (negsuc n) f = eqb·suc-suc n 32767
 pub lowest-next : (t : ℕ) (z : ℤ) (r : Bool) → t ≤ 32768 → natAbs z ≤ 32768 → SFits w16 z
     → (eqb (max t (natAbs z)) 32768 || r) ≡ (eqb t 32768 || (eqℤ z (negsuc 32767) || r))
 lowest-next t z r ht hz f =
-    ap (λ (b : Bool). b || r) (largest-or t (natAbs z) ht hz ∙ ap (λ (b : Bool). eqb t 32768 || b) (is-lowest z f)) ∙ assoc (eqb t 32768)
+    ap (λ (b : Bool). b || r) (largest-or t (natAbs z) ht hz ∙ ap (λ (b : Bool). eqb t 32768 || b) (is-lowest z f))
+    ∙ assoc (eqb t 32768)
   where
     assoc : (a : Bool) → ((a || eqℤ z (negsuc 32767)) || r) ≡ (a || (eqℤ z (negsuc 32767) || r))
     assoc true = refl

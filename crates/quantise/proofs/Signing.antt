@@ -1,5 +1,5 @@
--- Signs put back to magnitudes, by rows: the loop, and that the block it leaves is the definition's, whose levels are laid along the
--- scan. The count does not depend on the order. Assumes nothing.
+-- Signs put back to magnitudes, by rows: the loop, and that the block it leaves is the definition's, whose levels are
+-- laid along the scan. The count does not depend on the order. Assumes nothing.
 use mathlib.Core.Path.{_≡_, refl, sym, ap, subst, _∙_}
 use mathlib.Core.Logic.{_⊎_, ⊎-elim}
 use mathlib.Core.List.{List, [], _∷_}
@@ -27,7 +27,8 @@ signs-length [] ms e = refl
 signs-length (c ∷ cs) [] e = absurd (let z : ⊥ = omega arith in z)
 signs-length (c ∷ cs) (m ∷ ms) e = ap suc (signs-length cs ms (omega arith))
 
-pub signs-at : (cs : List ℤ) (ms : List ℕ) (k : ℕ) → length ms ≡ length cs → k < length cs → at (signs cs ms) k ≡ signed (at cs k) (getD ms k 0)
+pub signs-at : (cs : List ℤ) (ms : List ℕ) (k : ℕ) → length ms ≡ length cs → k < length cs
+    → at (signs cs ms) k ≡ signed (at cs k) (getD ms k 0)
 unfolding signs
 signs-at [] ms k e h = absurd (not-suc-le-zero h)
 signs-at (c ∷ cs) [] k e h = absurd (let z : ⊥ = omega arith in z)
@@ -44,7 +45,8 @@ pub signing-none : (before : List ℤ) (levels : List ℕ) → Signing before le
 signing-none before levels = record { room = refl; done = λ k h. absurd (not-suc-le-zero h); left = λ k h. refl }
 
 pub signing-more : (before : List ℤ) (levels : List ℕ) (block : List ℤ) (i : ℕ) (v : ℤ) → i < length before
-    → v ≡ signed (at before i) (getD levels i 0) → Signing before levels block i → Signing before levels (set block i v) (i + 1)
+    → v ≡ signed (at before i) (getD levels i 0) → Signing before levels block i
+    → Signing before levels (set block i v) (i + 1)
 signing-more before levels block i v h e s =
     record {
       room = length-set block i v ∙ s .room;
@@ -61,16 +63,19 @@ signing-more before levels block i v h e s =
       left = λ k l. getD-set-other block i k v (pos 0) (λ r. let z : ⊥ = omega arith in z) ∙ s .left k (omega arith);
     }
 
-pub signing-all : (before : List ℤ) (levels : List ℕ) (block : List ℤ) (i : ℕ) → length levels ≡ length before → length levels ≤ i
+pub signing-all : (before : List ℤ) (levels : List ℕ) (block : List ℤ) (i : ℕ) → length levels ≡ length before
+    → length levels ≤ i
     → Signing before levels block i → block ≡ signs before levels
 signing-all before levels block i e h s =
     ext-getD (pos 0) block (signs before levels) (s .room ∙ sym (signs-length before levels e))
     (λ k l. s .done k (omega (arith, s .room)) ∙ sym (signs-at before levels k e (omega (arith, s .room))))
 
 -- ---- the levels along the scan
-module _ (side : ℕ) (held : List ℕ) (sc : Scanned side held) (ls : List ℕ) (long : length ls ≡ side * side) (levels : List ℕ)
+module _ (side : ℕ) (held : List ℕ) (sc : Scanned side held) (ls : List ℕ) (long : length ls ≡ side * side)
+    (levels : List ℕ)
     (room : length levels ≡ side * side) (s : Standing side levels ls) where
-  pub same-block : (block : List ℤ) → length block ≡ side * side → signs block levels ≡ laid (scan side side) (signs (inOrder side block) ls) block
+  pub same-block : (block : List ℤ) → length block ≡ side * side
+      → signs block levels ≡ laid (scan side side) (signs (inOrder side block) ls) block
   unfolding scanAt
   same-block block e =
       ext-getD (pos 0) (signs block levels) (laid (scan side side) vs block)
@@ -89,12 +94,15 @@ module _ (side : ℕ) (held : List ℕ) (sc : Scanned side held) (ls : List ℕ)
       here : (k : ℕ) → k < side * side
           → at (signs block levels) (scanAt side side k) ≡ at (laid (scan side side) vs block) (scanAt side side k)
       here k h =
-          let i = Rattle.tables.proofs.OneToOne.scan-inside side side (sc .some) (sc .some) k (omega (arith, sc .full)) in
+          let i = Rattle.tables.proofs.OneToOne.scan-inside side side (sc .some) (sc .some) k
+          (omega (arith, sc .full)) in
           signs-at block levels (scanAt side side k) (omega arith) (omega arith)
           ∙ ap (λ (a : ℕ). signed (at block (scanAt side side k)) a) (s k h)
-          ∙ ap (λ (z : ℤ). signed z (getD ls k 0)) (sym (map-at 0 (pos 0) (λ p. at block p) (scan side side) k (omega (arith, sc .full))))
+          ∙ ap (λ (z : ℤ). signed z (getD ls k 0))
+          (sym (map-at 0 (pos 0) (λ p. at block p) (scan side side) k (omega (arith, sc .full))))
           ∙ sym (signs-at (inOrder side block) ls k (omega (arith, coefficients)) (omega (arith, coefficients)))
           ∙ sym
           (laid-on-scan side side (sc .some) (sc .some) vs block k
-          (signs-length (inOrder side block) ls (omega (arith, coefficients)) ∙ length-map (scan side side) (λ p. at block p))
+          (signs-length (inOrder side block) ls (omega (arith, coefficients))
+          ∙ length-map (scan side side) (λ p. at block p))
           (omega arith) (omega (arith, sc .full)))

@@ -1,5 +1,5 @@
--- A buffer's surplus is neither tested nor changed: the call over the block alone has the same answer, and leaves the block's part of
--- the buffer that the call over the whole leaves. Assumes nothing.
+-- A buffer's surplus is neither tested nor changed: the call over the block alone has the same answer, and leaves the
+-- block's part of the buffer that the call over the whole leaves. Assumes nothing.
 use mathlib.Core.Path.{_≡_, refl, sym, ap, _∙_}
 use mathlib.Core.Bool.{Bool, not}
 use mathlib.Core.List.{List, [], _∷_, _++_, map}
@@ -25,11 +25,16 @@ use Rattle.price.specs.declared.Settings.{Settings}
 use Rattle.price.specs.Level.{scaled, magnitude, threshold}
 use Rattle.price.specs.Price.{nonzeros}
 use Rattle.quantise.specs.declared.Mode.{Mode}
-use Rattle.quantise.specs.Block.{Quant, calledIn, area, scaleHere, shiftHere, lambdaHere, ruleOf, blockPlaces, scanned, places, isSkipped, largest, magnitudes, signs, laid, countOf, priceOf, quantised}
-use Rattle.quantise.specs.Call.{sideFault, qpFault, lambdaFault, costFault, lengthFault, sampleFault, largestHere, levelFault, priceFault, uncodedHere, distortionFault, quantFaults, quantVerdict, quantAnswer, quantBuffer}
+use Rattle.quantise.specs.Block.{Quant, calledIn, area, scaleHere, shiftHere, lambdaHere, ruleOf, blockPlaces}
+use Rattle.quantise.specs.Block.{scanned, places, isSkipped, largest, magnitudes, signs, laid, countOf, priceOf}
+use Rattle.quantise.specs.Block.{quantised}
+use Rattle.quantise.specs.Call.{sideFault, qpFault, lambdaFault, costFault, lengthFault, sampleFault, largestHere}
+use Rattle.quantise.specs.Call.{levelFault, priceFault, uncodedHere, distortionFault, quantFaults, quantVerdict}
+use Rattle.quantise.specs.Call.{quantAnswer, quantBuffer}
 
 -- values laid in front
-laid-front : (ps : List ℕ) (vs l r : List ℤ) → ((n : ℕ) → n < length ps → getD ps n 0 < length l) → laid ps vs (l ++ r) ≡ laid ps vs l ++ r
+laid-front : (ps : List ℕ) (vs l r : List ℤ) → ((n : ℕ) → n < length ps → getD ps n 0 < length l)
+    → laid ps vs (l ++ r) ≡ laid ps vs l ++ r
 unfolding laid
 laid-front [] vs l r h = refl
 laid-front (p ∷ ps) [] l r h = refl
@@ -37,7 +42,8 @@ laid-front (p ∷ ps) (v ∷ vs) l r h =
     ap (laid ps vs) (set-append-left l r p v (h 0 (omega arith)))
     ∙ laid-front ps vs (set l p v) r (λ n lt. omega (arith, h (suc n) (omega arith), length-set l p v))
 
-module _ (v : Mode) (B : List ℤ) (l : ℕ) (k : Component) (s : Settings) (i j : Bool) (t : Costs) (hi : l ≤ 5) (room : 2 ^ l * 2 ^ l ≤ length B) where
+module _ (v : Mode) (B : List ℤ) (l : ℕ) (k : Component) (s : Settings) (i j : Bool) (t : Costs) (hi : l ≤ 5)
+    (room : 2 ^ l * 2 ^ l ≤ length B) where
   abbrev n : ℕ
   n = 2 ^ l * 2 ^ l
 
@@ -87,13 +93,15 @@ module _ (v : Mode) (B : List ℤ) (l : ℕ) (k : Component) (s : Settings) (i j
   lambda-same = refl
 
   faults-same : Alike part all-of quantFaults
-  unfolding quantFaults sideFault qpFault lambdaFault costFault lengthFault sampleFault levelFault priceFault distortionFault area calledIn
+  unfolding quantFaults sideFault qpFault lambdaFault costFault lengthFault sampleFault levelFault priceFault
+      distortionFault area calledIn
   faults-same =
       next {f = sideFault} refl refl
       (next {f = qpFault} refl refl
       (next {f = lambdaFault} refl refl
       (next {f = costFault} refl refl
-      (next {f = lengthFault} (le-ltb (length (take n B)) n (omega (arith, length-take-le n B room)) ∙ sym (le-ltb (length B) n room)) refl
+      (next {f = lengthFault} (le-ltb (length (take n B)) n (omega (arith, length-take-le n B room))
+      ∙ sym (le-ltb (length B) n room)) refl
       (next {f = sampleFault} (ap (some (λ z. eqℤ z (negsuc 32767))) (take-take n n B (le-refl n))) refl
       (next {f = levelFault} (rw (skipped-same, largest-same)) refl
       (next {f = priceFault} (rw (skipped-same, largest-same, lambda-same)) refl
@@ -135,7 +143,8 @@ module _ (v : Mode) (B : List ℤ) (l : ℕ) (k : Component) (s : Settings) (i j
 
   pub surplus-carried : quantBuffer part ++ drop n B ≡ quantBuffer all-of
   unfolding quantBuffer calledIn
-  surplus-carried = ap (λ (v : Verdict). ifAccepted v (quantised part) (take n B) ++ drop n B) verdict-same ∙ go (quantVerdict all-of)
+  surplus-carried = ap (λ (v : Verdict). ifAccepted v (quantised part) (take n B) ++ drop n B) verdict-same
+      ∙ go (quantVerdict all-of)
     where
       go : (v : Verdict) → ifAccepted v (quantised part) (take n B) ++ drop n B ≡ ifAccepted v (quantised all-of) B
       go accepted = quantised-same

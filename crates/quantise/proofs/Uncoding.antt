@@ -1,5 +1,5 @@
--- D as code adds it up. The error of magnitude 0 in 32 bits: q·E and the rest are front·2^20, so that |c|·q·E / 2^20 is |c|·front less
--- |c|·rest / 2^20, rounded up. And the sum that is no longer added once past 2^60. Assumes nothing.
+-- D as code adds it up. The error of magnitude 0 in 32 bits: q·E and the rest are front·2^20, so that |c|·q·E / 2^20 is
+-- |c|·front less |c|·rest / 2^20, rounded up. And the sum that is no longer added once past 2^60. Assumes nothing.
 use mathlib.Core.Path.{_≡_, sym, ap, _∙_}
 use mathlib.Core.Logic.{_⊎_, inl, inr}
 use Prim.Native.Nat.{ℕ, zero, suc, _+_, _-_, _*_, _/_, _≤_, _<_, _^_}
@@ -71,7 +71,8 @@ error-is g s a = omega (arith, law a)
     law zero = omega arith
     law (suc n) = omega (arith, law n, s .exact)
 
-pub zero-distortion : (g : Scale) → Sound g → (z : ℤ) → zeroError g (natAbs z) * zeroError g (natAbs z) ≡ zeroDistortion g z
+pub zero-distortion : (g : Scale) → Sound g → (z : ℤ) → zeroError g (natAbs z) * zeroError g (natAbs z)
+    ≡ zeroDistortion g z
 unfolding scaled
 zero-distortion g s z =
     ap square (sym (error-is g s (natAbs z))) ∙ sym (distortion-of-0 (g .shift) (g .error) (natAbs z * g .q))

@@ -1,5 +1,6 @@
--- What becomes of the coefficients of a block: the quick skip, or the block that its mode writes, the levels, the count and the price. It is all in
--- scan order, over the rule that the call's inputs make; specs/Call.antt says which calls are accepted.
+-- What becomes of the coefficients of a block: the quick skip, or the block that its mode writes, the levels, the count
+-- and the price. It is all in scan order, over the rule that the call's inputs make; specs/Call.antt says which calls
+-- are accepted.
 use mathlib.Core.Bool.{Bool, not, cond}
 use mathlib.Core.List.{List, [], _∷_, map}
 use Prim.Native.Nat.{ℕ, _+_, _*_, _/_, _^_, max}
@@ -24,8 +25,9 @@ use Rattle.rule.specs.Rows.{rowsOf}
 use Rattle.quantise.specs.declared.Mode.{Mode}
 use Rattle.quantise.specs.declared.Mode.the-variants.{Walk, Least}
 
--- the inputs of a call: a buffer that begins with the coefficients of a block by rows, the log2 sides of the block, the component
--- that the call is told, and what the block is coded by. The mode and the last three are no inputs in document 01, which fixes them.
+-- the inputs of a call: a buffer that begins with the coefficients of a block by rows, the log2 sides of the block, the
+-- component that the call is told, and what the block is coded by. The mode and the last three are no inputs in
+-- document 01, which fixes them.
 pub record Quant : Type 0 where
   pub mode : Mode
   pub buffer : List ℤ

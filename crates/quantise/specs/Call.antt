@@ -7,7 +7,8 @@ use lib.ListN.{length, take}
 use lib.IntN.{ℤ, negsuc}
 use Rattle.integers.specs.Tests.{some, eqℤ}
 use Rattle.refusals.specs.declared.Component.{Component}
-use Rattle.refusals.specs.declared.Refusal.the-variants.{Side, Qp, Lambda, Cost, Length, Sample, Level, Price, Distortion}
+use Rattle.refusals.specs.declared.Refusal.the-variants.{Side, Qp, Lambda, Cost, Length, Sample, Level, Price}
+use Rattle.refusals.specs.declared.Refusal.the-variants.{Distortion}
 use Rattle.refusals.specs.Numbers.{numberOf, componentOf}
 use Rattle.refusals.specs.Faults.{Fault, ofNone, outside, Verdict, accepted, refused, verdict, ifAccepted}
 use Rattle.price.specs.Lambda.{lambdaRefused}
@@ -16,7 +17,8 @@ use Rattle.price.specs.Costs.{costRefused}
 use Rattle.price.specs.Price.{uncoded}
 use Rattle.quantise.specs.declared.QuantAnswer.{QuantAnswer}
 use Rattle.quantise.specs.declared.QuantAnswer.the-variants.{Coded, Refused}
-use Rattle.quantise.specs.Block.{Quant, area, ruleOf, shiftHere, lambdaHere, places, isSkipped, largest, countOf, priceOf, quantised}
+use Rattle.quantise.specs.Block.{Quant, area, ruleOf, shiftHere, lambdaHere, places, isSkipped, largest, countOf}
+use Rattle.quantise.specs.Block.{priceOf, quantised}
 
 -- ---- the faults
 abbrev pub told : Quant → Component
@@ -44,7 +46,12 @@ lengthFault = record { refusal = Length; component = ofNone; holds = λ c. ltb (
 unfoldable pub sampleFault : Fault Quant
 unfolding some area
 sampleFault =
-    record { refusal = Sample; component = told; holds = λ c. some (λ z. eqℤ z (negsuc 32767)) (take (area c) (c .buffer)) }
+    record {
+      refusal = Sample;
+      component = told;
+      holds = λ c. some (λ z. eqℤ z (negsuc 32767))
+          (take (area c) (c .buffer));
+    }
 
 -- M
 unfoldable pub largestHere : Quant → ℕ

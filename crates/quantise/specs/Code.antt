@@ -1,5 +1,5 @@
--- What the functions of the quantiser say to one another: the coefficients of a block by rows, D, what is kept for the walk, and the block
--- that is written.
+-- What the functions of the quantiser say to one another: the coefficients of a block by rows, D, what is kept for the
+-- walk, and the block that is written.
 use mathlib.Core.Path.{_≡_}
 use mathlib.Core.Bool.{cond}
 use mathlib.Core.List.{List, map}
@@ -89,6 +89,8 @@ pub record Codable (p : Prices) (g : Scale) (side : ℕ) (block : List ℤ) (d :
 
 pub record CodedAs (mode : Mode) (p : Prices) (g : Scale) (side : ℕ) (block after : List ℤ) (r : Coded) : Type 0 where
   pub buffer :
-      after ≡ laid (scan side side) (signs (inOrder side block) (writtenIn mode (ruleBy p g) (placesBy g side block))) block
+      after ≡ laid (scan side side) (signs (inOrder side block) (writtenIn mode (ruleBy p g) (placesBy g side block)))
+      block
   pub count : r .count ≡ nonzeros (writtenIn mode (ruleBy p g) (placesBy g side block))
-  pub price : r .price ≡ price (ruleBy p g) (writtenIn mode (ruleBy p g) (placesBy g side block)) (placesBy g side block)
+  pub price : r .price ≡ price (ruleBy p g) (writtenIn mode (ruleBy p g) (placesBy g side block))
+      (placesBy g side block)

@@ -1,5 +1,5 @@
-// D, the sum of uncoded squares, in parts by 32-bit products. Past 2^60 it is no longer added, so that it cannot overflow; a part is as
-// long as 63 bits hold its squares, each below 2^30·front².
+// D, the sum of uncoded squares, in parts by 32-bit products. Past 2^60 it is no longer added, so that it cannot
+// overflow; a part is as long as 63 bits hold its squares, each below 2^30·front².
 use crate::skip::magnitude;
 use crate::skip::part_end;
 use rule::scale::Scale;

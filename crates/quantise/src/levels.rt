@@ -1,4 +1,5 @@
-// From coefficients to levels, by rows: the magnitudes that the walk looks at, and the signs put back to those that it leaves.
+// From coefficients to levels, by rows: the magnitudes that the walk looks at, and the signs put back to those that it
+// leaves.
 use crate::Coded;
 use crate::Mode;
 use crate::skip::magnitude;
@@ -38,8 +39,10 @@ fn keep(block: &[i16], kept: &mut [u16], g: Scale) -> usize
 
 // Each magnitude with its coefficient's sign, in the coefficient's place; how many are not 0.
 fn put_signs(block: &mut [i16], levels: &[u16]) -> u32
-    requires { ⌜ (length (now levels) ≡ length (now block)) × (length (now block) ≤ 4096) × ((k : ℕ) → getD (now levels) k 0 ≤ 32767) ⌝ }
-    ensures { λ r. ⌜ (now (block .exit) ≡ signs (now (block .entry)) (now (levels .entry))) × (r ≡ nonzeros (now (levels .entry))) ⌝ }
+    requires { ⌜ (length (now levels) ≡ length (now block)) × (length (now block) ≤ 4096)
+        × ((k : ℕ) → getD (now levels) k 0 ≤ 32767) ⌝ }
+    ensures { λ r. ⌜ (now (block .exit) ≡ signs (now (block .entry)) (now (levels .entry)))
+        × (r ≡ nonzeros (now (levels .entry))) ⌝ }
 {
     let mut count: u16 = 0;
     let mut i = 0;
@@ -95,7 +98,9 @@ fn code_in(
     kept: &mut [u16],
     levels: &mut [u16],
 ) -> Coded
-    requires { ⌜ (1 ≤ «log2_side») × («log2_side» ≤ 5) × Codable p g (2 ^ «log2_side») (now block) d × (length (now scan) ≡ length (now block)) × (length (now kept) ≡ length (now block)) × (length (now levels) ≡ length (now block)) × Cleared (now levels) ⌝ }
+    requires { ⌜ (1 ≤ «log2_side») × («log2_side» ≤ 5) × Codable p g (2 ^ «log2_side») (now block) d
+        × (length (now scan) ≡ length (now block)) × (length (now kept) ≡ length (now block))
+        × (length (now levels) ≡ length (now block)) × Cleared (now levels) ⌝ }
     ensures { λ r. ⌜ CodedAs mode p g (2 ^ «log2_side») (now (block .entry)) (now (block .exit)) r ⌝ }
 {
     let one: usize = 1;

@@ -1,5 +1,5 @@
-// The quantiser of a square block of coefficients: the quick skip, or by the mode the walk cut where it is cheapest, or the cheapest block
-// of all.
+// The quantiser of a square block of coefficients: the quick skip, or by the mode the walk cut where it is cheapest, or
+// the cheapest block of all.
 use crate::distortion::uncoded;
 use crate::levels::code_levels;
 use crate::skip::clear;
@@ -48,7 +48,8 @@ pub enum QuantAnswer {
     Refused(Refusal, Component),
 }
 
-// A block that has its own part of the buffer, where refusals 1 to 5 are past. A coefficient of -32768 is never skipped.
+// A block that has its own part of the buffer, where refusals 1 to 5 are past. A coefficient of -32768 is never
+// skipped.
 fn code_block(
     block: &mut [i16],
     log2_side: usize,
@@ -59,9 +60,15 @@ fn code_block(
     costs: Costs,
     mode: Mode,
 ) -> QuantAnswer
-    requires { ⌜ (1 ≤ «log2_side») × («log2_side» ≤ 5) × (settings .qp ≤ 63) × (lambdaRefused (settings .lambda) ≡ false) × (costRefused costs ≡ false) × (length (now block) ≡ 2 ^ «log2_side» * 2 ^ «log2_side») ⌝ }
-    ensures answer { λ r. ⌜ paperOf r ≡ quantAnswer (calledIn mode (now (block .entry)) «log2_side» component settings «intra_slice» «intra_coded» costs) ⌝ }
-    ensures buffer { λ _. ⌜ now (block .exit) ≡ quantBuffer (calledIn mode (now (block .entry)) «log2_side» component settings «intra_slice» «intra_coded» costs) ⌝ }
+    requires { ⌜ (1 ≤ «log2_side») × («log2_side» ≤ 5) × (settings .qp ≤ 63)
+        × (lambdaRefused (settings .lambda) ≡ false) × (costRefused costs ≡ false)
+        × (length (now block) ≡ 2 ^ «log2_side» * 2 ^ «log2_side») ⌝ }
+    ensures answer { λ r. ⌜ paperOf r
+        ≡ quantAnswer (calledIn mode (now (block .entry)) «log2_side» component settings «intra_slice» «intra_coded»
+        costs) ⌝ }
+    ensures buffer { λ _. ⌜ now (block .exit)
+        ≡ quantBuffer (calledIn mode (now (block .entry)) «log2_side» component settings «intra_slice» «intra_coded»
+        costs) ⌝ }
 {
     let threshold = skip_threshold(log2_side, settings.qp, intra_slice);
     if !is_walked(block, tables::scales::scale(settings.qp), threshold) {
@@ -89,7 +96,8 @@ fn code_block(
     QuantAnswer::Coded(code_levels(block, log2_side, p, g, d, mode))
 }
 
-// evce_quant_nnz for a square block of side 2^log2_side: the levels in place of the coefficients, their count and their price.
+// evce_quant_nnz for a square block of side 2^log2_side: the levels in place of the coefficients, their count and their
+// price.
 pub fn quant_nnz(
     block: &mut [i16],
     log2_side: usize,
@@ -100,8 +108,12 @@ pub fn quant_nnz(
     costs: Costs,
     mode: Mode,
 ) -> QuantAnswer
-    ensures answer { λ r. ⌜ paperOf r ≡ quantAnswer (calledIn mode (now (block .entry)) «log2_side» component settings «intra_slice» «intra_coded» costs) ⌝ }
-    ensures buffer { λ _. ⌜ now (block .exit) ≡ quantBuffer (calledIn mode (now (block .entry)) «log2_side» component settings «intra_slice» «intra_coded» costs) ⌝ }
+    ensures answer { λ r. ⌜ paperOf r
+        ≡ quantAnswer (calledIn mode (now (block .entry)) «log2_side» component settings «intra_slice» «intra_coded»
+        costs) ⌝ }
+    ensures buffer { λ _. ⌜ now (block .exit)
+        ≡ quantBuffer (calledIn mode (now (block .entry)) «log2_side» component settings «intra_slice» «intra_coded»
+        costs) ⌝ }
 {
     if no_side(log2_side) {
         return QuantAnswer::Refused(Refusal::Side, Component::Y);

@@ -1,12 +1,13 @@
--- Any two outcomes that a contract allows coincide. A contract of this project fixes the paper's numbers of the answer and the buffer;
--- the numbers tell every refusal and every component apart, so that they fix the answer itself.
+-- Any two outcomes that a contract allows coincide. A contract of this project fixes the paper's numbers of the answer
+-- and the buffer; the numbers tell every refusal and every component apart, so that they fix the answer itself.
 -- Assumes nothing.
 use mathlib.Core.Path.{_≡_, refl, sym, ap, _∙_}
 use mathlib.Core.List.{[], _∷_}
 use Prim.Native.Nat.{ℕ}
 use lib.ListN.{getD}
 use Rattle.refusals.specs.declared.Refusal.{Refusal}
-use Rattle.refusals.specs.declared.Refusal.the-variants.{Side, Qp, Lambda, Cost, Length, Sample, Level, Price, Distortion}
+use Rattle.refusals.specs.declared.Refusal.the-variants.{Side, Qp, Lambda, Cost, Length, Sample, Level, Price}
+use Rattle.refusals.specs.declared.Refusal.the-variants.{Distortion}
 use Rattle.refusals.specs.declared.Component.{Component}
 use Rattle.refusals.specs.declared.Component.the-variants.{Y, U, «V»}
 use Rattle.refusals.specs.Numbers.{numberOf, componentOf}
@@ -45,6 +46,7 @@ component-tells = undone componentOf componentAt is
     is «V» = refl
 
 -- answer and buffer of one outcome and of another, where both are what the contract says
-pub coincide : {R P B : Type 0} (paper : R → P) (tells : (a b : R) → paper a ≡ paper b → a ≡ b) (answer : P) (buffer : B)
+pub coincide : {R P B : Type 0} (paper : R → P) (tells : (a b : R) → paper a ≡ paper b → a ≡ b) (answer : P)
+    (buffer : B)
     (r₁ r₂ : R) (b₁ b₂ : B) → paper r₁ ≡ answer → b₁ ≡ buffer → paper r₂ ≡ answer → b₂ ≡ buffer → (r₁ ≡ r₂) × (b₁ ≡ b₂)
 coincide paper tells answer buffer r₁ r₂ b₁ b₂ e₁ f₁ e₂ f₂ = (tells r₁ r₂ (e₁ ∙ sym e₂), f₁ ∙ sym f₂)

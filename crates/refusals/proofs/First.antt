@@ -1,5 +1,5 @@
--- The law of the refusals: the verdict is the first fault that holds, and a call without a fault is accepted. Both ways round, so
--- that a verdict and a list of faults say the same. And two calls with the same faults have one verdict.
+-- The law of the refusals: the verdict is the first fault that holds, and a call without a fault is accepted. Both ways
+-- round, so that a verdict and a list of faults say the same. And two calls with the same faults have one verdict.
 -- Assumes nothing.
 use mathlib.Core.Path.{_≡_, refl}
 use mathlib.Core.Bool.{Bool, true, false, cond, _&&_}
@@ -64,7 +64,13 @@ module _ {I : Type 0} (i : I) where
       split true h q rest = record { fault = f; first = here h; its-number = cc; its-component = cc }
       split false h q rest =
           let r = rest q in
-          record { fault = r .fault; first = later h (r .first); its-number = r .its-number; its-component = r .its-component }
+          record {
+            fault = r .fault;
+            first = later h (r .first);
+            its-number = r .its-number;
+            its-component = r
+                .its-component;
+          }
 
   -- a list without a fault, taken apart
   pub head-fails : {f : Fault I} {fs : List (Fault I)} → None i (f ∷ fs) → f .holds i ≡ false
@@ -98,14 +104,16 @@ module _ {I : Type 0} (i : I) where
     where
       split : (t : Bool) → verdict (fs ++ gs) i ≡ orElse (verdict fs i) (verdict gs i)
           → cond t (refused (numberOf (f .refusal)) (componentOf (f .component i))) (verdict (fs ++ gs) i)
-          ≡ orElse (cond t (refused (numberOf (f .refusal)) (componentOf (f .component i))) (verdict fs i)) (verdict gs i)
+          ≡ orElse (cond t (refused (numberOf (f .refusal)) (componentOf (f .component i))) (verdict fs i))
+          (verdict gs i)
       split true e = refl
       split false e = e
 
 -- two calls of which the same faults hold, for the same components, have one verdict
 pub data Alike {I : Type 0} (i j : I) : List (Fault I) → Type 0 where
   all : Alike i j []
-  next : {f : Fault I} {fs : List (Fault I)} → f .holds i ≡ f .holds j → f .component i ≡ f .component j → Alike i j fs → Alike i j (f ∷ fs)
+  next : {f : Fault I} {fs : List (Fault I)} → f .holds i ≡ f .holds j → f .component i ≡ f .component j → Alike i j fs
+      → Alike i j (f ∷ fs)
 
 pub same-verdict : {I : Type 0} (i j : I) (fs : List (Fault I)) → Alike i j fs → verdict fs i ≡ verdict fs j
 unfolding verdict

@@ -1,5 +1,5 @@
--- How a call is refused. A call has a list of faults, in the order in which they are tested; each is a statement about the call's
--- inputs by itself. The call is refused with the first that holds, and accepted when none does.
+-- How a call is refused. A call has a list of faults, in the order in which they are tested; each is a statement about
+-- the call's inputs by itself. The call is refused with the first that holds, and accepted when none does.
 use mathlib.Core.Bool.{Bool, not, cond, _&&_}
 use mathlib.Core.List.{List, [], _∷_}
 use Prim.Native.Nat.{ℕ}

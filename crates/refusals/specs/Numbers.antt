@@ -1,7 +1,8 @@
 -- The paper's number of each refusal and of each component.
 use Prim.Native.Nat.{ℕ}
 use Rattle.refusals.specs.declared.Refusal.{Refusal}
-use Rattle.refusals.specs.declared.Refusal.the-variants.{Side, Qp, Lambda, Cost, Length, Sample, Level, Price, Distortion}
+use Rattle.refusals.specs.declared.Refusal.the-variants.{Side, Qp, Lambda, Cost, Length, Sample, Level, Price}
+use Rattle.refusals.specs.declared.Refusal.the-variants.{Distortion}
 use Rattle.refusals.specs.declared.Component.{Component}
 use Rattle.refusals.specs.declared.Component.the-variants.{Y, U, «V»}
 

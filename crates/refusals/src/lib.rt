@@ -1,5 +1,6 @@
-// The nine refusals and the three components, by name: no tenth refusal and no fourth component can be named. specs/ has the
-// paper's number for each, and how a call's refusal comes from the list of its faults: it is the first that holds.
+// The nine refusals and the three components, by name: no tenth refusal and no fourth component can be named. specs/
+// has the paper's number for each, and how a call's refusal comes from the list of its faults: it is the first that
+// holds.
 ghost use mathlib.Core.Path.{_≡_};
 ghost use Rattle.refusals.specs.Numbers.{numberOf, componentOf};
 ghost use Rattle.refusals.specs.Faults.{outside};

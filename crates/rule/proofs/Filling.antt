@@ -1,4 +1,5 @@
--- Levels that are put down one by one along the scan: before place n they are those of ls, behind it nothing is put yet.
+-- Levels that are put down one by one along the scan: before place n they are those of ls, behind it nothing is put
+-- yet.
 -- Assumes nothing.
 use mathlib.Core.Path.{_≡_, refl, sym, _∙_}
 use mathlib.Core.Logic.{⊎-elim}
@@ -17,7 +18,8 @@ use Rattle.rule.specs.Places.{Scanned, Standing, Cleared}
 use Rattle.rule.proofs.Places.{inside, apart}
 
 abbrev pub Filled : ℕ → ℕ → List ℕ → List ℕ → Type 0
-Filled side n levels ls = (k : ℕ) → k < side * side → getD levels (scanAt side side k) 0 ≡ cond (ltb k n) (getD ls k 0) 0
+Filled side n levels ls =
+    (k : ℕ) → k < side * side → getD levels (scanAt side side k) 0 ≡ cond (ltb k n) (getD ls k 0) 0
 
 module _ (side : ℕ) (levels ls : List ℕ) where
   pub filled-none : Cleared levels → Filled side 0 levels ls
@@ -26,11 +28,13 @@ module _ (side : ℕ) (levels ls : List ℕ) where
   -- nothing of ls is left behind place n
   pub filled-all : (n : ℕ) → ((k : ℕ) → n ≤ k → getD ls k 0 ≡ 0) → Filled side n levels ls → Standing side levels ls
   filled-all n tail f k h =
-      f k h ∙ ⊎-elim (λ (l : k < n). rw (lt-ltb k n l)) (λ (l : n ≤ k). rw (le-ltb k n l) (sym (tail k l))) (below-or-not k n)
+      f k h ∙ ⊎-elim (λ (l : k < n). rw (lt-ltb k n l)) (λ (l : n ≤ k). rw (le-ltb k n l) (sym (tail k l)))
+      (below-or-not k n)
 
 -- place n is done, and nothing else changes
 module _ (side : ℕ) (levels after ls : List ℕ) (n : ℕ) (here : getD after (scanAt side side n) 0 ≡ getD ls n 0)
-    (there : (k : ℕ) → k < side * side → (k ≡ n → ⊥) → getD after (scanAt side side k) 0 ≡ getD levels (scanAt side side k) 0) where
+    (there : (k : ℕ) → k < side * side → (k ≡ n → ⊥) → getD after (scanAt side side k) 0
+    ≡ getD levels (scanAt side side k) 0) where
   filled-on : Filled side n levels ls → Filled side (n + 1) after ls
   filled-on f k l =
       ⊎-elim
@@ -43,12 +47,14 @@ module _ (side : ℕ) (levels after ls : List ℕ) (n : ℕ) (here : getD after 
 
 module _ (side : ℕ) (levels ls : List ℕ) (n : ℕ) (h : n < side * side) where
   -- place n takes a
-  pub filled-next : (held : List ℕ) → Scanned side held → length levels ≡ side * side → (a : ℕ) → getD ls n 0 ≡ a → Filled side n levels ls
+  pub filled-next : (held : List ℕ) → Scanned side held → length levels ≡ side * side → (a : ℕ) → getD ls n 0 ≡ a
+      → Filled side n levels ls
       → Filled side (n + 1) (set levels (scanAt side side n) a) ls
   filled-next held sc room a e =
       filled-on side levels (set levels (scanAt side side n) a) ls n
       (getD-set-same levels (scanAt side side n) a 0 (omega (arith, inside side held sc n h)) ∙ sym e)
-      (λ k l ne. getD-set-other levels (scanAt side side n) (scanAt side side k) a 0 (λ s. ne (apart side held sc k n l h s)))
+      (λ k l ne. getD-set-other levels (scanAt side side n) (scanAt side side k) a 0
+      (λ s. ne (apart side held sc k n l h s)))
 
   -- or stays 0
   pub filled-zero : getD ls n 0 ≡ 0 → Filled side n levels ls → Filled side (n + 1) levels ls

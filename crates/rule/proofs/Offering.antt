@@ -1,5 +1,5 @@
--- The cheaper of m and m - 1 does not depend on the level before, whose price is in both; and the tests by which code finds it. The
--- walk and the search weigh it against 0. Assumes nothing.
+-- The cheaper of m and m - 1 does not depend on the level before, whose price is in both; and the tests by which code
+-- finds it. The walk and the search weigh it against 0. Assumes nothing.
 use mathlib.Core.Path.{_≡_, refl, sym, ap, _∙_}
 use mathlib.Core.Logic.{_⊎_, inl, inr}
 use mathlib.Core.Bool.{Bool, true, false, cond}
@@ -59,7 +59,8 @@ module _ (p : Prices) (g : Scale) (L : ℕ) where
   offer-one first m c e h q b =
       let r : magnitude (g .shift) L ≡ 1 = sym e ∙ h in record { is = rw r h; price = q; some = omega arith; small = b }
 
-  module _ (first : Bool) (m n c d : ℕ) (e : m ≡ magnitude (g .shift) L) (h : m ≡ 1 → ⊥) (o : 1 ≤ m) (en : n ≡ m - 1) (qc : c ≡ bare p g L m)
+  module _ (first : Bool) (m n c d : ℕ) (e : m ≡ magnitude (g .shift) L) (h : m ≡ 1 → ⊥) (o : 1 ≤ m) (en : n ≡ m - 1)
+      (qc : c ≡ bare p g L m)
       (qd : d ≡ bare p g L n) (b : c ≤ 2 ^ 61 + 2 ^ 59) where
     offer-is : offered first p g L ≡ firstOf first (bare p g L) m n
     unfolding offered

@@ -1,5 +1,6 @@
--- Magnitudes kept by rows, in scan order: each scan place is met once, so that counts don't depend on the order and what holds along the
--- scan holds everywhere. Where nothing is kept m is 0, and no distortion; where something is, L fits. Assumes nothing.
+-- Magnitudes kept by rows, in scan order: each scan place is met once, so that counts don't depend on the order and
+-- what holds along the scan holds everywhere. Where nothing is kept m is 0, and no distortion; where something is, L
+-- fits. Assumes nothing.
 use mathlib.Core.Path.{_≡_, refl, sym, ap, subst, _∙_}
 use mathlib.Core.Logic.{⊎-elim}
 use mathlib.Core.List.{List, map}
@@ -27,7 +28,8 @@ use Rattle.rule.specs.Places.{keptAt, inScan, keptFrom, keptPlaces, Scan
 use Rattle.rule.proofs.Scaling.{magnitude-of-0}
 
 -- ---- levels that stand for ls
-module _ (side : ℕ) (held : List ℕ) (sc : Scanned side held) (ls : List ℕ) (long : length ls ≡ side * side) (levels : List ℕ)
+module _ (side : ℕ) (held : List ℕ) (sc : Scanned side held) (ls : List ℕ) (long : length ls ≡ side * side)
+    (levels : List ℕ)
     (room : length levels ≡ side * side) (s : Standing side levels ls) where
   in-order : map (λ p. getD levels p 0) (scan side side) ≡ ls
   unfolding scanAt
@@ -47,7 +49,8 @@ module _ (side : ℕ) (held : List ℕ) (sc : Scanned side held) (ls : List ℕ)
       ∙ sym (nonzeros-over ls)
 
   -- what holds of every level walked holds of every level by rows
-  pub everywhere : (P : ℕ → Type 0) → P 0 → ((k : ℕ) → k < side * side → P (getD ls k 0)) → (b : ℕ) → P (getD levels b 0)
+  pub everywhere : (P : ℕ → Type 0) → P 0 → ((k : ℕ) → k < side * side → P (getD ls k 0)) → (b : ℕ)
+      → P (getD levels b 0)
   everywhere P none h b =
       ⊎-elim
       (λ (l : b < side * side).
@@ -68,9 +71,11 @@ module _ (side : ℕ) (kept held : List ℕ) (sc : Scanned side held) where
   pub kept-in-all : length kept ≡ side * side → nonzeros kept ≡ keptFrom side kept 0
   kept-in-all room = same-count side held sc (inScan side kept) scan-count kept room (λ k h. sym (scan-at k h))
 
-  pub kept-next : (n : ℕ) → n < side * side → keptFrom side kept n ≡ ones (keptAt side kept n) + keptFrom side kept (n + 1)
+  pub kept-next : (n : ℕ) → n < side * side
+      → keptFrom side kept n ≡ ones (keptAt side kept n) + keptFrom side kept (n + 1)
   kept-next n h =
-      nonzeros-next (inScan side kept) n (omega (arith, scan-count)) ∙ ap (λ (a : ℕ). ones a + keptFrom side kept (n + 1)) (scan-at n h)
+      nonzeros-next (inScan side kept) n (omega (arith, scan-count))
+      ∙ ap (λ (a : ℕ). ones a + keptFrom side kept (n + 1)) (scan-at n h)
 
   pub kept-inside : (n : ℕ) → 0 < keptFrom side kept n → n < side * side
   kept-inside n h = omega (arith, scan-count, some-left (inScan side kept) n h)
@@ -89,7 +94,8 @@ module _ (side : ℕ) (held : List ℕ) (sc : Scanned side held) where
   inside n h = scan-inside side side (sc .some) (sc .some) n (omega (arith, sc .full))
 
   pub apart : (j k : ℕ) → j < side * side → k < side * side → scanAt side side j ≡ scanAt side side k → j ≡ k
-  apart j k hj hk e = scan-apart side side (sc .some) (sc .some) j k (omega (arith, sc .full)) (omega (arith, sc .full)) e
+  apart j k hj hk e =
+      scan-apart side side (sc .some) (sc .some) j k (omega (arith, sc .full)) (omega (arith, sc .full)) e
 
   module _ (g : Scale) (kept : List ℕ) where
     pub places-count : length (keptPlaces g side kept) ≡ side * side
@@ -101,15 +107,19 @@ module _ (side : ℕ) (held : List ℕ) (sc : Scanned side held) where
 
 pub nothing-there : (g : Scale) → Sound g → (a : ℕ) → a ≡ 0 → magnitude (g .shift) (a * g .q) ≡ 0
 nothing-there g s a e =
-    ap (magnitude (g .shift)) (ap (λ (b : ℕ). b * g .q) e ∙ zero-mul (g .q)) ∙ magnitude-of-0 (g .shift) (omega (arith, s .low))
+    ap (magnitude (g .shift)) (ap (λ (b : ℕ). b * g .q) e ∙ zero-mul (g .q))
+    ∙ magnitude-of-0 (g .shift) (omega (arith, s .low))
 
 pub nothing-uncoded : (p : Prices) (g : Scale) → (ruleBy p g) .dist 0 0 ≡ 0
 unfolding ruleBy
-nothing-uncoded p g = distortion-of-0 (g .shift) (g .error) 0 ∙ ap (λ (x : ℕ). x / 2 ^ 20 * (x / 2 ^ 20)) (zero-mul (g .error))
+nothing-uncoded p g =
+    distortion-of-0 (g .shift) (g .error) 0 ∙ ap (λ (x : ℕ). x / 2 ^ 20 * (x / 2 ^ 20)) (zero-mul (g .error))
 
 pub some-kept : (a : ℕ) → (a ≡ 0 → ⊥) → 1 ≤ a
 some-kept zero h = absurd (h refl)
 some-kept (suc a) h = omega arith
 
-pub product-small : (p : Prices) (g : Scale) (side : ℕ) (kept : List ℕ) → Weighable p g side kept → (k : ℕ) → getD kept k 0 * g .q ≤ 2 ^ 49
-product-small p g side kept w k = omega (arith, w .fine k .near, mul-le-mul-left (getD kept k 0 * g .q) (w .sound .some-error))
+pub product-small : (p : Prices) (g : Scale) (side : ℕ) (kept : List ℕ) → Weighable p g side kept → (k : ℕ)
+    → getD kept k 0 * g .q ≤ 2 ^ 49
+product-small p g side kept w k =
+    omega (arith, w .fine k .near, mul-le-mul-left (getD kept k 0 * g .q) (w .sound .some-error))

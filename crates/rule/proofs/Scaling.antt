@@ -1,9 +1,10 @@
--- The scale of a block is sound: q is one of six numbers, the shift lies between 14 and 28, and q·E leaves less than q of front·2^20.
--- Code works in 32 and 64 bits by these bounds. Assumes nothing.
+-- The scale of a block is sound: q is one of six numbers, the shift lies between 14 and 28, and q·E leaves less than q
+-- of front·2^20. Code works in 32 and 64 bits by these bounds. Assumes nothing.
 use mathlib.Core.Path.{_≡_, refl, sym, ap, _∙_}
 use mathlib.Core.Bool.{Bool, _&&_}
 use Prim.Native.Nat.{ℕ, zero, suc, _+_, _-_, _*_, _/_, _%_, _^_, _≤_, _<_}
-use native.Mathlib.Nat.{div-eq-of-lt, mod-lt, mul-div-le, lt-mul-div-succ, mul-add, mul-le-mul, pow-suc, mul-le-mul-right, mul-one, div-le-of-le-mul}
+use native.Mathlib.Nat.{div-eq-of-lt, mod-lt, mul-div-le, lt-mul-div-succ, mul-add, mul-le-mul, pow-suc}
+use native.Mathlib.Nat.{mul-le-mul-right, mul-one, div-le-of-le-mul}
 use native.Mathlib.Omega.{arith}
 use lib.Dec.{leb, leb→le, lit<}
 use lib.Pow.{pow-add, pow-mono, pow-lt, pow-pos}
@@ -23,7 +24,8 @@ pub scale-range : (qp : ℕ) → (14564 ≤ scaleOf forward qp) × (scaleOf forw
 unfolding scaleOf forward all in-range
 scale-range qp =
     let k = qp % 6 in
-    let b = and-yes (leb 14564 (getD forward k 0)) (leb (getD forward k 0) 26214) (all-at 6 in-range tt k (mod-lt qp (lit< tt))) in
+    let b = and-yes (leb 14564 (getD forward k 0)) (leb (getD forward k 0) 26214)
+    (all-at 6 in-range tt k (mod-lt qp (lit< tt))) in
     (leb→le 14564 (getD forward k 0) (b .0), leb→le (getD forward k 0) 26214 (b .1))
 
 -- 2^(28+l) in units of 2^20
@@ -31,7 +33,10 @@ pub units : (l : ℕ) → 2 ^ (28 + l) ≡ 2 ^ (8 + l) * 2 ^ 20
 units l = omega (arith, pow-add 2 28 l, pow-add 2 8 l)
 
 pub front-range : (l : ℕ) → l ≤ 5 → (256 ≤ 2 ^ (8 + l)) × (2 ^ (8 + l) ≤ 8192)
-front-range l h = (omega (arith, pow-mono {i = 8} {j = 8 + l} (omega arith)), omega (arith, pow-mono {i = 8 + l} {j = 13} (omega arith)))
+front-range l h = (
+  omega (arith, pow-mono {i = 8} {j = 8 + l} (omega arith)),
+  omega (arith, pow-mono {i = 8 + l} {j = 13} (omega arith)),
+)
 
 module _ (l qp : ℕ) (lo : 1 ≤ l) (hi : l ≤ 5) (hq : qp ≤ 63) where
   pub shift-range : (14 ≤ shiftOf l qp) × (shiftOf l qp ≤ 28)
@@ -39,7 +44,8 @@ module _ (l qp : ℕ) (lo : 1 ≤ l) (hi : l ≤ 5) (hq : qp ≤ 63) where
   shift-range = (omega arith, omega arith)
 
   pub error-range :
-      (1 ≤ errorScale l (scaleOf forward qp)) × (scaleOf forward qp * errorScale l (scaleOf forward qp) ≤ 2 ^ (8 + l) * 2 ^ 20)
+      (1 ≤ errorScale l (scaleOf forward qp))
+      × (scaleOf forward qp * errorScale l (scaleOf forward qp) ≤ 2 ^ (8 + l) * 2 ^ 20)
       × (2 ^ (8 + l) * 2 ^ 20 < scaleOf forward qp * errorScale l (scaleOf forward qp) + scaleOf forward qp)
   unfolding errorScale
   error-range =
@@ -47,7 +53,8 @@ module _ (l qp : ℕ) (lo : 1 ≤ l) (hi : l ≤ 5) (hq : qp ≤ 63) where
       let n = 2 ^ (28 + l) in
       let r = scale-range qp in
       let above : n < q * (n / q + 1) = lt-mul-div-succ n (omega arith) in
-      let split : q * (n / q + 1) ≡ q * (n / q) + q = mul-add q (n / q) 1 ∙ ap (λ (x : ℕ). q * (n / q) + x) (mul-one q) in
+      let split : q * (n / q + 1) ≡ q * (n / q) + q = mul-add q (n / q) 1
+      ∙ ap (λ (x : ℕ). q * (n / q) + x) (mul-one q) in
       let under : q * (n / q) ≤ n = mul-div-le n q in
       let some : 1 ≤ n / q = positive (n / q) refl (omega (arith, units l, front-range l hi)) in
       (some, omega (arith, units l), omega (arith, units l))
@@ -55,7 +62,13 @@ module _ (l qp : ℕ) (lo : 1 ≤ l) (hi : l ≤ 5) (hq : qp ≤ 63) where
       positive : (e : ℕ) → e ≡ 2 ^ (28 + l) / scaleOf forward qp → scaleOf forward qp < 2 ^ (28 + l) → 1 ≤ e
       positive zero i h =
           absurd
-          (let z : ⊥ = omega (arith, lt-mul-div-succ (2 ^ (28 + l)) {b = scaleOf forward qp} (omega (arith, scale-range qp)), ap (λ (x : ℕ). scaleOf forward qp * (x + 1)) (sym i), mul-one (scaleOf forward qp)) in z)
+          (let z : ⊥ = omega (
+            arith,
+            lt-mul-div-succ (2 ^ (28 + l)) {b = scaleOf forward qp}
+                (omega (arith, scale-range qp)),
+            ap (λ (x : ℕ). scaleOf forward qp * (x + 1)) (sym i),
+            mul-one (scaleOf forward qp),
+          ) in z)
       positive (suc e) i h = omega arith
 
 -- a power that a shift makes in 64 bits
@@ -76,7 +89,8 @@ half-range l qp lo hi hq = pow-mono {i = shiftOf l qp - 1} {j = 27} (omega (arit
 pub least-range : (half q : ℕ) → 14564 ≤ q → half ≤ 2 ^ 27 → (half + q - 1) / q ≤ 16384
 least-range half q h b = div-le-of-le-mul q (omega arith)
 
-pub scale-sound : (l qp : ℕ) → 1 ≤ l → l ≤ 5 → qp ≤ 63 → (g : Scale) → g .q ≡ scaleOf forward qp → g .shift ≡ shiftOf l qp
+pub scale-sound : (l qp : ℕ) → 1 ≤ l → l ≤ 5 → qp ≤ 63 → (g : Scale) → g .q ≡ scaleOf forward qp
+    → g .shift ≡ shiftOf l qp
     → g .unit ≡ 2 ^ (g .shift) → g .half ≡ 2 ^ (g .shift - 1) → g .error ≡ errorScale l (g .q) → g .front ≡ 2 ^ (8 + l)
     → g .rest ≡ g .front * 2 ^ 20 - g .q * g .error → g .least ≡ (g .half + g .q - 1) / g .q → ScaleOf l qp g
 scale-sound l qp lo hi hq g eq es eu eh ee ef er el =
@@ -115,7 +129,8 @@ part-of-unit b h =
     let e : 9 + (b - 9) ≡ b = omega arith in
     (ap (λ (k : ℕ). 2 ^ k) (sym e) ∙ omega (arith, pow-add 2 9 (b - 9)), pow-pos (b - 9))
 
-pub threshold-range : (b : ℕ) → 9 ≤ b → b ≤ 28 → (unit f : ℕ) → unit ≡ 2 ^ b → f ≤ 201 → (unit - f * (unit / 512) ≡ 2 ^ b - f * 2 ^ (b - 9))
+pub threshold-range : (b : ℕ) → 9 ≤ b → b ≤ 28 → (unit f : ℕ) → unit ≡ 2 ^ b → f ≤ 201
+    → (unit - f * (unit / 512) ≡ 2 ^ b - f * 2 ^ (b - 9))
     × (1 ≤ unit - f * (unit / 512)) × (f * (unit / 512) ≤ unit) × (unit ≤ 2 ^ 28)
 threshold-range b lo hi unit f u h =
     let p = part-of-unit b lo in
@@ -128,7 +143,8 @@ pub rounding : (g : Scale) → Sound g → (L : ℕ) → (L + g .half) / 2 ^ (g 
 unfolding magnitude
 rounding g s L = ap (λ (k : ℕ). (L + k) / 2 ^ (g .shift)) (s .half)
 
-pub rounded-range : (g : Scale) → Sound g → (c : ℕ) → c ≤ 32768 → ((c * g .q + g .half) / 2 ^ (g .shift) ≡ magnitude (g .shift) (c * g .q))
+pub rounded-range : (g : Scale) → Sound g → (c : ℕ) → c ≤ 32768
+    → ((c * g .q + g .half) / 2 ^ (g .shift) ≡ magnitude (g .shift) (c * g .q))
     × ((c * g .q + g .half) / 2 ^ (g .shift) ≤ 4194304)
 rounded-range g s c h =
     let x : c * g .q ≤ 32768 * 32767 = mul-le-mul h (s .wide-q) in

@@ -1,5 +1,5 @@
--- The square of a magnitude's error in unsigned numbers, as the walk works it out: downwards below L, and above L rounded up in one
--- division. Near L it is no larger than the square of the error of 0. Assumes nothing.
+-- The square of a magnitude's error in unsigned numbers, as the walk works it out: downwards below L, and above L
+-- rounded up in one division. Near L it is no larger than the square of the error of 0. Assumes nothing.
 use mathlib.Core.Path.{_≡_, sym, ap, _∙_}
 use mathlib.Core.Logic.{_⊎_, inl, inr}
 use Prim.Native.Nat.{ℕ, zero, suc, _+_, _-_, _*_, _/_, _≤_, _<_, _^_}
@@ -38,8 +38,10 @@ module _ (g : Scale) (s : Sound g) (L a : ℕ) (h : Near g L a) where
 
   beyond : L < a * g .unit → (let y = ((a * g .unit - L) * g .error + 1048575) / 1048576 in Distortion g L a (y * y))
   beyond k =
-      let q : ((a * g .unit - L) * g .error - 1) / 2 ^ 20 + 1 ≡ ((a * g .unit - L) * g .error + 1048575) / 1048576 = omega (arith, apart k) in
-      let b : ((a * g .unit - L) * g .error + 1048575) / 1048576 ≤ 2 ^ 29 = omega (arith, near (a * g .unit - L) (close k)) in
+      let q : ((a * g .unit - L) * g .error - 1) / 2 ^ 20 + 1 ≡ ((a * g .unit - L) * g .error + 1048575) / 1048576 =
+      omega (arith, apart k) in
+      let b : ((a * g .unit - L) * g .error + 1048575) / 1048576 ≤ 2 ^ 29 =
+      omega (arith, near (a * g .unit - L) (close k)) in
       record {
         is =
             ap (λ (y : ℕ). y * y) (sym q)
@@ -50,9 +52,11 @@ module _ (g : Scale) (s : Sound g) (L a : ℕ) (h : Near g L a) where
   -- the two ways by one division
   abbrev pub Gap : ℕ → ℕ → Type 0
   Gap d up =
-      ((a * g .unit ≤ L) × (d ≡ L - a * g .unit) × (up ≡ 0)) ⊎ ((L < a * g .unit) × (d ≡ a * g .unit - L) × (up ≡ 1048575))
+      ((a * g .unit ≤ L) × (d ≡ L - a * g .unit) × (up ≡ 0))
+      ⊎ ((L < a * g .unit) × (d ≡ a * g .unit - L) × (up ≡ 1048575))
 
-  pub either : (d up : ℕ) → Gap d up → Distortion g L a ((d * g .error + up) / 1048576 * ((d * g .error + up) / 1048576))
+  pub either : (d up : ℕ) → Gap d up
+      → Distortion g L a ((d * g .error + up) / 1048576 * ((d * g .error + up) / 1048576))
   either d up (inl k) =
       let q : d * g .error + up ≡ (L - a * g .unit) * g .error = rw (k .1, k .2) (omega arith) in
       rw q (below (k .0))

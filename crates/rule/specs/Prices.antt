@@ -1,5 +1,5 @@
--- The prices of a block as code holds them: the cost tables with lambda multiplied in, read once a block. With a scale they make the rule that
--- the block is priced by.
+-- The prices of a block as code holds them: the cost tables with lambda multiplied in, read once a block. With a scale
+-- they make the rule that the block is priced by.
 use mathlib.Core.Path.{_≡_}
 use mathlib.Core.Bool.{Bool, cond}
 use mathlib.Core.List.{List}

@@ -53,8 +53,8 @@ pub fn contexts_of(component: Component, intra_coded: bool) -> Contexts
     }
 }
 
-// Of two that differ in their last letter the first is after a nonzero level, the second after a 0. zero: a 0; head: the sign and the
-// run of a level; one, two, each: a level of 1, of 2, and what each one more adds.
+// Of two that differ in their last letter the first is after a nonzero level, the second after a 0. zero: a 0; head:
+// the sign and the run of a level; one, two, each: a level of 1, of 2, and what each one more adds.
 pub struct Prices {
     pub zero: u64,
     pub zeros: u64,

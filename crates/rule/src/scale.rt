@@ -6,8 +6,8 @@ ghost use Prim.Native.Nat.{_≤_, _*_, _^_};
 ghost use Rattle.price.specs.Level.{shiftOf, magnitude, threshold};
 ghost use Rattle.rule.specs.Scale.{Sound, ScaleOf};
 
-// q, b, 2^b and its half, and E. q·E and the rest are front·2^20, so that the error of magnitude 0 is worked out in 32 bits;
-// least is the smallest |c| whose m is above 0.
+// q, b, 2^b and its half, and E. q·E and the rest are front·2^20, so that the error of magnitude 0 is worked out in 32
+// bits; least is the smallest |c| whose m is above 0.
 pub struct Scale {
     pub q: u32,
     pub shift: u32,

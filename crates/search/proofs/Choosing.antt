@@ -1,5 +1,5 @@
--- A place that is weighed: the one offer against 0, in numbers as code holds them, chooses what the search does, since the offer does not
--- depend on the level before and no price reaches what stands for none. Assumes nothing.
+-- A place that is weighed: the one offer against 0, in numbers as code holds them, chooses what the search does, since
+-- the offer does not depend on the level before and no price reaches what stands for none. Assumes nothing.
 use mathlib.Core.Path.{_≡_, refl, sym, ap, subst, _∙_}
 use mathlib.Core.Bool.{Bool, true, false, cond}
 use mathlib.Core.List.{List, _∷_}
@@ -11,7 +11,8 @@ use Rattle.price.specs.Level.{magnitude, distortion}
 use Rattle.price.specs.Rule.{Rule, cost}
 use Rattle.price.specs.Price.{uncoded}
 use Rattle.price.specs.Walk.{cheaper}
-use Rattle.price.specs.Search.{some, plus, under, lesser, ending, goingOn, goesOn, behind, offer, withZero, withLevel, takenBy, leastBy, taken, ahead}
+use Rattle.price.specs.Search.{some, plus, under, lesser, ending, goingOn, goesOn, behind, offer, withZero, withLevel}
+use Rattle.price.specs.Search.{takenBy, leastBy, taken, ahead}
 use Rattle.price.specs.Search as of-price
 use Rattle.rule.specs.declared.scale.Scale.{Scale}
 use Rattle.rule.specs.declared.prices.Prices.{Prices}
@@ -33,25 +34,29 @@ offer-by p g z L (suc zero) h = refl
 offer-by p g z L (suc (suc k)) h =
     let e : suc (suc k) - 1 ≡ suc k = omega arith in
     let q : eqb (suc (suc k)) 1 ≡ false = ne-eqb (suc (suc k)) 1 (λ (x : suc (suc k) ≡ 1). omega (arith, x)) in
-    rw (e, q) (same-offer (cost (ruleBy p g) z L) (bare p g L) (headPrice p z) (suc k) (suc (suc k)) (cost-by p g z L k) (cost-by p g z L (suc k)))
+    rw (e, q) (same-offer (cost (ruleBy p g) z L) (bare p g L) (headPrice p z) (suc k) (suc (suc k)) (cost-by p g z L k)
+    (cost-by p g z L (suc k)))
 
 cost-is : (p : Prices) (g : Scale) (z : Bool) (L a : ℕ) → 1 ≤ a → cost (ruleBy p g) z L a ≡ bare p g L a + headPrice p z
 cost-is p g z L zero o = absurd (omega arith)
 cost-is p g z L (suc a) o = cost-by p g z L a
 
 module _ (r : Rule) (z : Bool) (L : ℕ) (ps : List ℕ) (t : of-price.Ahead) where
-  least-some : (m : ℕ) → 1 ≤ m → leastBy r z L ps t m ≡ lesser (withZero r z L ps t) (withLevel r z L ps t (offer r z L m))
+  least-some : (m : ℕ) → 1 ≤ m
+      → leastBy r z L ps t m ≡ lesser (withZero r z L ps t) (withLevel r z L ps t (offer r z L m))
   unfolding leastBy
   least-some zero h = absurd (omega arith)
   least-some (suc m) h = refl
 
   taken-some : (m : ℕ) → 1 ≤ m
-      → takenBy r z L ps t m ≡ (let a = offer r z L m in cond (under (withLevel r z L ps t a) (withZero r z L ps t)) a 0)
+      → takenBy r z L ps t m
+      ≡ (let a = offer r z L m in cond (under (withLevel r z L ps t a) (withZero r z L ps t)) a 0)
   unfolding takenBy
   taken-some zero h = absurd (omega arith)
   taken-some (suc m) h = refl
 
-module _ (p : Prices) (g : Scale) (n : ℕ) (ps : List ℕ) (h : Ahead) (k : Held p g n ps h) (L : ℕ) (e : Ready p g h L) (w : Weighed)
+module _ (p : Prices) (g : Scale) (n : ℕ) (ps : List ℕ) (h : Ahead) (k : Held p g n ps h) (L : ℕ) (e : Ready p g h L)
+    (w : Weighed)
     (q : WeighedBy p g h L w) where
   abbrev r : Rule
   r = ruleBy p g
@@ -91,7 +96,8 @@ module _ (p : Prices) (g : Scale) (n : ℕ) (ps : List ℕ) (h : Ahead) (k : Hel
   pub weighed-on : cond (goesOn r ps t) 1 0 ≡ w .on
   unfolding goesOn
   weighed-on =
-      rw (ending-is, under-some (h .level + p .more) (h .rest + p .last) ends-below (goingOn r ps t) going-on) (sym (q .on))
+      rw (ending-is, under-some (h .level + p .more) (h .rest + p .last) ends-below (goingOn r ps t) going-on)
+      (sym (q .on))
 
   behind-is : behind r ps t ≡ some (behindBy p h)
   unfolding behind
@@ -119,13 +125,19 @@ module _ (p : Prices) (g : Scale) (n : ℕ) (ps : List ℕ) (h : Ahead) (k : Hel
     least-is =
         let l : leastBy r z L ps t (magnitude (g .shift) L) ≡ some (cond (ltb (y z) (x z)) (y z) (x z)) =
         least-some r z L ps t (magnitude (g .shift) L) (e .some)
-        ∙ rw (offer-is z, with-level z) (some-lesser (x z) (y z) (omega (arith, small z)) (withZero r z L ps t) (with-zero z)) in
+        ∙ rw (offer-is z, with-level z) (some-lesser (x z) (y z) (omega (arith, small z)) (withZero r z L ps t)
+        (with-zero z)) in
         rw l (i .price, omega (arith, small z, lower (ltb (y z) (x z)) (y z) (x z) refl .0))
 
     taken-is : takenBy r z L ps t (magnitude (g .shift) L) ≡ c .level
     taken-is =
         taken-some r z L ps t (magnitude (g .shift) L) (e .some)
-        ∙ rw (offer-is z, with-level z, some-under (x z) (y z) (omega (arith, small z)) (withZero r z L ps t) (with-zero z)) (sym (i .level))
+        ∙ rw (
+          offer-is z,
+          with-level z,
+          some-under (x z) (y z) (omega (arith, small z)) (withZero r z L ps t)
+              (with-zero z),
+        ) (sym (i .level))
 
   pub weighed-zero : taken r true L ps t ≡ w .zero
   unfolding taken ruleBy
@@ -137,4 +149,13 @@ module _ (p : Prices) (g : Scale) (n : ℕ) (ps : List ℕ) (h : Ahead) (k : Hel
 
   pub weighed-held : Held p g (suc n) (L ∷ ps) (w .ahead)
   unfolding ahead uncoded ruleBy
-  weighed-held = record { zero = least-is true _ (q .zero); level = least-is false _ (q .level); rest = omega (arith, q .rest, k .rest) }
+  weighed-held =
+      record {
+        zero = least-is true _ (q .zero);
+        level = least-is false _ (q .level);
+        rest = omega (
+          arith,
+          q .rest,
+          k .rest,
+        );
+      }

@@ -1,5 +1,6 @@
--- A least price as code holds it: none is a number of 2^63 and more, which no price reaches, so that one comparison of numbers is enough.
--- What code holds so is the search's where a place is passed, and from where on nothing is kept at all. Assumes nothing.
+-- A least price as code holds it: none is a number of 2^63 and more, which no price reaches, so that one comparison of
+-- numbers is enough. What code holds so is the search's where a place is passed, and from where on nothing is kept at
+-- all. Assumes nothing.
 use mathlib.Core.Path.{_≡_, refl, sym, ap, _∙_}
 use mathlib.Core.Bool.{Bool, true, false, cond}
 use mathlib.Core.List.{List, [], _∷_}
@@ -100,7 +101,8 @@ module _ (p : Prices) (g : Scale) (s : Sound g) where
     unfolding taken takenBy
     passed-taken = rw nothing-top
 
-  pub passed-held : Modest p → (n : ℕ) (ps : List ℕ) (h : Ahead) → Held p g n ps h → Held p g (suc n) (0 ∷ ps) (passedBy p h)
+  pub passed-held : Modest p → (n : ℕ) (ps : List ℕ) (h : Ahead) → Held p g n ps h
+      → Held p g (suc n) (0 ∷ ps) (passedBy p h)
   unfolding ahead uncoded
   passed-held m n ps h k =
       let t = ahead (ruleBy p g) ps in

@@ -1,5 +1,5 @@
--- The loop back along the scan: at n code holds what is known from place n on, and what is chosen at each place from n to `end`. It begins
--- at `end`, from which on nothing is kept. Assumes nothing.
+-- The loop back along the scan: at n code holds what is known from place n on, and what is chosen at each place from n
+-- to `end`. It begins at `end`, from which on nothing is kept. Assumes nothing.
 use mathlib.Core.Path.{_≡_, sym, ap, subst, _∙_}
 use mathlib.Core.Logic.{⊎-elim}
 use mathlib.Core.Bool.{Bool, true, false, cond}
@@ -24,7 +24,8 @@ use Rattle.search.specs.Searching.{Passable, passedBy, Ready, WeighedBy,
 use Rattle.search.proofs.Holding.{held-small, passed-taken, passed-held, none-held}
 use Rattle.search.proofs.Choosing.{weighed-zero, weighed-level, weighed-on, weighed-held}
 
-pub record Looking (p : Prices) (g : Scale) (side : ℕ) (kept : List ℕ) (end : ℕ) (afterZero afterLevel ons : List ℕ) (t : Ahead) (n : ℕ) : Type 0 where
+pub record Looking (p : Prices) (g : Scale) (side : ℕ) (kept : List ℕ) (end : ℕ) (afterZero afterLevel ons : List ℕ)
+    (t : Ahead) (n : ℕ) : Type 0 where
   pub place : n ≤ end
   pub known : Known p g side kept n t
   pub decided : Decided p g side kept n end afterZero afterLevel ons
@@ -42,13 +43,15 @@ less-left r (L ∷ ps) (suc i) = omega (arith, less-left r ps i)
 here-or-behind : (n : ℕ) (P : ℕ → Type 0) → P n → ((k : ℕ) → suc n ≤ k → P k) → (k : ℕ) → n ≤ k → P k
 here-or-behind n P here behind k l = ⊎-elim (λ (e : n ≡ k). subst P e here) (behind k) (eq-or-lt-of-le l)
 
-put : (n : ℕ) (P : ℕ → ℕ → Type 0) (l : List ℕ) (v : ℕ) → n < length l → P n v → ((k : ℕ) → suc n ≤ k → P k (getD l k 0))
+put : (n : ℕ) (P : ℕ → ℕ → Type 0) (l : List ℕ) (v : ℕ) → n < length l → P n v
+    → ((k : ℕ) → suc n ≤ k → P k (getD l k 0))
     → (k : ℕ) → n ≤ k → P k (getD (set l n v) k 0)
 put n P l v h here behind =
     here-or-behind n (λ (k : ℕ). P k (getD (set l n v) k 0)) (subst (P n) (sym (getD-set-same l n v 0 h)) here)
     (λ k m. subst (P k) (sym (getD-set-other l n k v 0 (λ e. let z : ⊥ = omega arith in z))) (behind k m))
 
-module _ (p : Prices) (g : Scale) (side : ℕ) (kept held : List ℕ) (sc : Scanned side held) (s : Sought p g side kept) (end : ℕ)
+module _ (p : Prices) (g : Scale) (side : ℕ) (kept held : List ℕ) (sc : Scanned side held) (s : Sought p g side kept)
+    (end : ℕ)
     (ends : Ends side kept end) where
   abbrev r : Rule
   r = ruleBy p g
@@ -62,7 +65,12 @@ module _ (p : Prices) (g : Scale) (side : ℕ) (kept held : List ℕ) (sc : Scan
       record {
         place = omega arith;
         known = none-held p g (s .weighable .sound) (side * side - end) (from g side kept end) none-there;
-        decided = record { zero = λ k l m. absurd (omega arith); level = λ k l m. absurd (omega arith); on = λ k l m. absurd (omega arith) };
+        decided = record {
+          zero = λ k l m. absurd (omega arith);
+          level = λ k l m. absurd (omega arith);
+          on = λ k l m.
+              absurd (omega arith);
+        };
         zero-room = a;
         level-room = b;
         on-room = c;
@@ -89,7 +97,8 @@ module _ (p : Prices) (g : Scale) (side : ℕ) (kept held : List ℕ) (sc : Scan
     one-more : suc (side * side - suc n) ≡ side * side - n
     one-more = omega (arith, inside-n)
 
-    known-by : (L : ℕ) (v : Ahead) → getD ps n 0 ≡ L → Held p g (suc (side * side - suc n)) (L ∷ from g side kept (suc n)) v → Known p g side kept n v
+    known-by : (L : ℕ) (v : Ahead) → getD ps n 0 ≡ L
+        → Held p g (suc (side * side - suc n)) (L ∷ from g side kept (suc n)) v → Known p g side kept n v
     known-by L v e k = rw (all, ← one-more, e) k
 
     small : (t .zero ≤ 2 ^ 63 + 2 ^ 61) × (t .level ≤ 2 ^ 63 + 2 ^ 61)
@@ -116,9 +125,11 @@ module _ (p : Prices) (g : Scale) (side : ℕ) (kept held : List ℕ) (sc : Scan
     Takes z k a = k < end → a ≡ taken r z (getD ps k 0) (from g side kept (suc k)) (ahead r (from g side kept (suc k)))
 
     abbrev GoesOn : ℕ → ℕ → Type 0
-    GoesOn k a = k < end → 1 ≤ keptAt side kept k → a ≡ cond (goesOn r (from g side kept (suc k)) (ahead r (from g side kept (suc k)))) 1 0
+    GoesOn k a = k < end → 1 ≤ keptAt side kept k
+        → a ≡ cond (goesOn r (from g side kept (suc k)) (ahead r (from g side kept (suc k)))) 1 0
 
-    takes : (z : Bool) (L a : ℕ) → getD ps n 0 ≡ L → taken r z L (from g side kept (suc n)) (ahead r (from g side kept (suc n))) ≡ a → Takes z n a
+    takes : (z : Bool) (L a : ℕ) → getD ps n 0 ≡ L
+        → taken r z L (from g side kept (suc n)) (ahead r (from g side kept (suc n))) ≡ a → Takes z n a
     takes z L a e q l = rw e (sym q)
 
     pub passes : keptAt side kept n ≡ 0 → Looking p g side kept end (set zs n 0) (set ls n 0) ons (passedBy p t) n
@@ -128,7 +139,8 @@ module _ (p : Prices) (g : Scale) (side : ℕ) (kept held : List ℕ) (sc : Scan
         let later = from g side kept (suc n) in
         record {
           place = omega (arith, i .place);
-          known = known-by 0 (passedBy p t) L (passed-held p g (w .sound) (w .modest) (side * side - suc n) later t (i .known));
+          known = known-by 0 (passedBy p t) L (passed-held p g (w .sound) (w .modest) (side * side - suc n) later t
+              (i .known));
           decided =
               record {
                 zero =
@@ -137,7 +149,8 @@ module _ (p : Prices) (g : Scale) (side : ℕ) (kept held : List ℕ) (sc : Scan
                 level =
                     put n (Takes false) ls 0 (omega (arith, inside-n, i .level-room))
                     (takes false 0 0 L (passed-taken p g (w .sound) false later (ahead r later))) (i .decided .level);
-                on = here-or-behind n (λ (k : ℕ). GoesOn k (getD ons k 0)) (λ l o. absurd (omega arith)) (i .decided .on);
+                on = here-or-behind n (λ (k : ℕ). GoesOn k (getD ons k 0)) (λ l o. absurd (omega arith))
+                    (i .decided .on);
               };
           zero-room = length-set zs n 0 ∙ i .zero-room;
           level-room = length-set ls n 0 ∙ i .level-room;
@@ -157,10 +170,12 @@ module _ (p : Prices) (g : Scale) (side : ℕ) (kept held : List ℕ) (sc : Scan
               record {
                 zero =
                     put n (Takes true) zs (w .zero) (omega (arith, inside-n, i .zero-room))
-                    (takes true L (w .zero) here (weighed-zero p g left later t (i .known) L (ready o) w q)) (i .decided .zero);
+                    (takes true L (w .zero) here (weighed-zero p g left later t (i .known) L (ready o) w q))
+                    (i .decided .zero);
                 level =
                     put n (Takes false) ls (w .level) (omega (arith, inside-n, i .level-room))
-                    (takes false L (w .level) here (weighed-level p g left later t (i .known) L (ready o) w q)) (i .decided .level);
+                    (takes false L (w .level) here (weighed-level p g left later t (i .known) L (ready o) w q))
+                    (i .decided .level);
                 on =
                     put n GoesOn ons (w .on) (omega (arith, inside-n, i .on-room))
                     (λ l o'. sym (weighed-on p g left later t (i .known) L (ready o) w q)) (i .decided .on);

@@ -1,5 +1,6 @@
--- The block that is read off, place by place. A place takes what is chosen there after the level before; behind a nonzero level that does not
--- go on all is 0, and so it is where nothing is kept. With that the loop of read_off reads off what the search has. Assumes nothing.
+-- The block that is read off, place by place. A place takes what is chosen there after the level before; behind a
+-- nonzero level that does not go on all is 0, and so it is where nothing is kept. With that the loop of read_off reads
+-- off what the search has. Assumes nothing.
 use mathlib.Core.Path.{_≡_, refl, sym, ap, _∙_}
 use mathlib.Core.Bool.{Bool, true, false, cond}
 use mathlib.Core.List.{List, [], _∷_}
@@ -37,17 +38,20 @@ quiet-taken r z p ps t e = rw e
 abbrev following : Rule → List ℕ → (a : ℕ) → (on : Bool) → List ℕ
 following r ps a on = cond (isZero a) (readOff r (isZero a) ps) (cond on (readOff r (isZero a) ps) (emptyBlock ps))
 
-quiet-following : (r : Rule) (ps : List ℕ) (k : ℕ) → ((z : Bool) → getD (readOff r z ps) k 0 ≡ 0) → (a : ℕ) (on : Bool) → getD (following r ps a on) k 0 ≡ 0
+quiet-following : (r : Rule) (ps : List ℕ) (k : ℕ) → ((z : Bool) → getD (readOff r z ps) k 0 ≡ 0) → (a : ℕ) (on : Bool)
+    → getD (following r ps a on) k 0 ≡ 0
 quiet-following r ps k h zero on = h true
 quiet-following r ps k h (suc a) true = h false
 quiet-following r ps k h (suc a) false = empty-at ps k
 
-quiet-read : (r : Rule) (z : Bool) (ps : List ℕ) (k : ℕ) → (k < length ps → r .top (getD ps k 0) ≡ 0) → getD (readOff r z ps) k 0 ≡ 0
+quiet-read : (r : Rule) (z : Bool) (ps : List ℕ) (k : ℕ) → (k < length ps → r .top (getD ps k 0) ≡ 0)
+    → getD (readOff r z ps) k 0 ≡ 0
 unfolding readOff
 quiet-read r z [] k e = refl
 quiet-read r z (p ∷ ps) zero e = quiet-taken r z p ps (ahead r ps) (e (omega arith))
 quiet-read r z (p ∷ ps) (suc k) e =
-    quiet-following r ps k (λ z. quiet-read r z ps k (λ h. e (omega arith))) (taken r z p ps (ahead r ps)) (goesOn r ps (ahead r ps))
+    quiet-following r ps k (λ z. quiet-read r z ps k (λ h. e (omega arith))) (taken r z p ps (ahead r ps))
+    (goesOn r ps (ahead r ps))
 
 -- what place n takes, and whether a nonzero level there goes on
 abbrev takenAt : Rule → List ℕ → ℕ → Bool → ℕ
@@ -57,21 +61,25 @@ abbrev goesOnAt : Rule → List ℕ → ℕ → Bool
 goesOnAt r ps n = goesOn r (drop (suc n) ps) (ahead r (drop (suc n) ps))
 
 -- place n of ls, where ls from there on is what is read off
-module _ (r : Rule) (z : Bool) (ps ls : List ℕ) (n : ℕ) (h : n < length ps) (same : drop n ls ≡ readOff r z (drop n ps)) where
+module _ (r : Rule) (z : Bool) (ps ls : List ℕ) (n : ℕ) (h : n < length ps) (same : drop n ls
+    ≡ readOff r z (drop n ps)) where
   from-there : drop n ls ≡ takenAt r ps n z ∷ following r (drop (suc n) ps) (takenAt r ps n z) (goesOnAt r ps n)
   unfolding readOff
   from-there = same ∙ rw (drop-cons ps n 0 h)
 
-  one-place : (getD ls n 0 ≡ takenAt r ps n z) × (drop (n + 1) ls ≡ following r (drop (suc n) ps) (takenAt r ps n z) (goesOnAt r ps n))
+  one-place : (getD ls n 0 ≡ takenAt r ps n z)
+      × (drop (n + 1) ls ≡ following r (drop (suc n) ps) (takenAt r ps n z) (goesOnAt r ps n))
   one-place = (
     ap (λ (k : ℕ). getD ls k 0) (omega arith) ∙ sym (getD-drop n ls 0 0) ∙ ap (λ (l : List ℕ). getD l 0 0) from-there,
     sym (drop-drop 1 n ls) ∙ ap (drop 1) from-there,
   )
 
 -- where a place has taken a: the block goes on, or is 0 from `stop` on
-goes : (r : Rule) (ps ls : List ℕ) (n stop : ℕ) → ((k : ℕ) → stop ≤ k → getD ls k 0 ≡ 0) → (a on : ℕ) (o : Bool) → (1 ≤ a → on ≡ cond o 1 0)
+goes : (r : Rule) (ps ls : List ℕ) (n stop : ℕ) → ((k : ℕ) → stop ≤ k → getD ls k 0 ≡ 0) → (a on : ℕ) (o : Bool)
+    → (1 ≤ a → on ≡ cond o 1 0)
     → drop (n + 1) ls ≡ following r ps a o
-    → (n + 1 < stopWith a on n stop → drop (n + 1) ls ≡ readOff r (isZero a) ps) × ((k : ℕ) → stopWith a on n stop ≤ k → getD ls k 0 ≡ 0)
+    → (n + 1 < stopWith a on n stop → drop (n + 1) ls ≡ readOff r (isZero a) ps)
+    × ((k : ℕ) → stopWith a on n stop ≤ k → getD ls k 0 ≡ 0)
 goes r ps ls n stop t zero on o e q = (λ h. q, t)
 goes r ps ls n stop t (suc a) on true e q = rw (e (omega arith)) (λ h. q, t)
 goes r ps ls n stop t (suc a) on false e q = rw (e (omega arith)) (λ h. absurd (omega arith), ended)
@@ -88,10 +96,12 @@ goes r ps ls n stop t (suc a) on false e q = rw (e (omega arith)) (λ h. absurd 
 abbrev pub chosen : (afterZero afterLevel : List ℕ) (prev n : ℕ) → ℕ
 chosen afterZero afterLevel prev n = cond (isZero prev) (getD afterZero n 0) (getD afterLevel n 0)
 
-pub chosen-zero : (afterZero afterLevel : List ℕ) (prev n : ℕ) → prev ≡ 0 → chosen afterZero afterLevel prev n ≡ getD afterZero n 0
+pub chosen-zero : (afterZero afterLevel : List ℕ) (prev n : ℕ) → prev ≡ 0 → chosen afterZero afterLevel prev n
+    ≡ getD afterZero n 0
 chosen-zero afterZero afterLevel prev n e = rw e
 
-pub chosen-level : (afterZero afterLevel : List ℕ) (prev n : ℕ) → (prev ≡ 0 → ⊥) → chosen afterZero afterLevel prev n ≡ getD afterLevel n 0
+pub chosen-level : (afterZero afterLevel : List ℕ) (prev n : ℕ) → (prev ≡ 0 → ⊥) → chosen afterZero afterLevel prev n
+    ≡ getD afterLevel n 0
 chosen-level afterZero afterLevel zero n h = absurd (h refl)
 chosen-level afterZero afterLevel (suc b) n h = refl
 
@@ -100,8 +110,8 @@ stop-by P zero on n stop x y = x
 stop-by P (suc a) zero n stop x y = y
 stop-by P (suc a) (suc on) n stop x y = x
 
--- before place n, of one block ls that is read off of ps: as much of it stands; while it goes on the rest of it is what is read off of the
--- places that are left; and from `stop` on it is 0
+-- before place n, of one block ls that is read off of ps: as much of it stands; while it goes on the rest of it is what
+-- is read off of the places that are left; and from `stop` on it is 0
 record Follows (side : ℕ) (r : Rule) (ps ls levels : List ℕ) (stop prev n : ℕ) : Type 0 where
   standing : Filled side n levels ls
   going : n < stop → drop n ls ≡ readOff r (isZero prev) (drop n ps)
@@ -112,8 +122,10 @@ pub record Reading (side end : ℕ) (afterZero afterLevel ons levels : List ℕ)
   pub place : n ≤ stop
   pub within : stop ≤ end
   pub room : length levels ≡ side * side
-  blocks : (p : Prices) (g : Scale) (kept : List ℕ) → Sound g → Ends side kept end → Decided p g side kept 0 end afterZero afterLevel ons
-      → Follows side (ruleBy p g) (keptPlaces g side kept) (readOff (ruleBy p g) false (keptPlaces g side kept)) levels stop prev n
+  blocks : (p : Prices) (g : Scale) (kept : List ℕ) → Sound g → Ends side kept end
+      → Decided p g side kept 0 end afterZero afterLevel ons
+      → Follows side (ruleBy p g) (keptPlaces g side kept) (readOff (ruleBy p g) false (keptPlaces g side kept))
+      levels stop prev n
 
 module _ (side end : ℕ) (afterZero afterLevel ons held : List ℕ) (sc : Scanned side held) where
   module _ (p : Prices) (g : Scale) (kept : List ℕ) (sound : Sound g) (ends : Ends side kept end)
@@ -129,7 +141,8 @@ module _ (side end : ℕ) (afterZero afterLevel ons held : List ℕ) (sc : Scann
 
     quiet-place : (k : ℕ) → k < side * side → keptAt side kept k ≡ 0 → r .top (getD ps k 0) ≡ 0
     unfolding ruleBy
-    quiet-place k h e = ap (magnitude (g .shift)) (place-at side held sc g kept k h) ∙ nothing-there g sound (keptAt side kept k) e
+    quiet-place k h e =
+        ap (magnitude (g .shift)) (place-at side held sc g kept k h) ∙ nothing-there g sound (keptAt side kept k) e
 
     begins : (levels : List ℕ) → Cleared levels → Follows side r ps ls levels end 1 0
     begins levels z =
@@ -138,10 +151,12 @@ module _ (side end : ℕ) (afterZero afterLevel ons held : List ℕ) (sc : Scann
           going = λ h. refl;
           tail =
               λ k h. quiet-read r false ps k
-              (λ l. let i : k < side * side = omega (arith, places-count side held sc g kept) in quiet-place k i (ends .tail k h i));
+              (λ l. let i : k < side * side = omega (arith, places-count side held sc g kept) in quiet-place k i
+              (ends .tail k h i));
         }
 
-    module _ (levels : List ℕ) (stop prev n : ℕ) (f : Follows side r ps ls levels stop prev n) (lt : n < stop) (le : stop ≤ end)
+    module _ (levels : List ℕ) (stop prev n : ℕ) (f : Follows side r ps ls levels stop prev n) (lt : n < stop)
+        (le : stop ≤ end)
         (room : length levels ≡ side * side) (a : ℕ) (chose : a ≡ chosen afterZero afterLevel prev n) where
       inside : n < side * side
       inside = omega (arith, ends .within)
@@ -159,12 +174,18 @@ module _ (side end : ℕ) (afterZero afterLevel ons held : List ℕ) (sc : Scann
         where
           by : (m : ℕ) → keptAt side kept n ≡ m → 1 ≤ m
           by zero e =
-              absurd (omega (arith, is-taken, quiet-taken r (isZero prev) (getD ps n 0) (drop (suc n) ps) (ahead r (drop (suc n) ps)) (quiet-place n inside e)))
+              absurd (omega (
+                arith,
+                is-taken,
+                quiet-taken r (isZero prev) (getD ps n 0) (drop (suc n) ps)
+                    (ahead r (drop (suc n) ps)) (quiet-place n inside e),
+              ))
           by (suc m) e = omega arith
 
       follows : Follows side r ps ls (set levels (scanAt side side n) a) (stopWith a (getD ons n 0) n stop) a (n + 1)
       follows =
-          let s = one-place r (isZero prev) ps ls n (omega (arith, inside, places-count side held sc g kept)) (f .going lt) in
+          let s = one-place r (isZero prev) ps ls n (omega (arith, inside, places-count side held sc g kept))
+          (f .going lt) in
           let q =
           goes r (drop (suc n) ps) ls n stop (f .tail) a (getD ons n 0) (goesOnAt r ps n)
           (λ some. decided .on n (omega arith) (omega arith) (kept-there some)) (rw is-taken (s .1)) in
@@ -174,22 +195,34 @@ module _ (side end : ℕ) (afterZero afterLevel ons held : List ℕ) (sc : Scann
             tail = q .1;
           }
 
-  pub begun : (levels : List ℕ) → length levels ≡ side * side → Cleared levels → Reading side end afterZero afterLevel ons levels end 1 0
+  pub begun : (levels : List ℕ) → length levels ≡ side * side → Cleared levels
+      → Reading side end afterZero afterLevel ons levels end 1 0
   begun levels room z =
-      record { place = omega arith; within = omega arith; room = room; blocks = λ p g kept s e d. begins p g kept s e d levels z }
+      record {
+        place = omega arith;
+        within = omega arith;
+        room = room;
+        blocks = λ p g kept s e d. begins p g kept s e d
+            levels z;
+      }
 
   module _ (levels : List ℕ) (stop prev n : ℕ) (i : Reading side end afterZero afterLevel ons levels stop prev n) where
     pub reads : n < stop → (a : ℕ) → a ≡ chosen afterZero afterLevel prev n
-        → Reading side end afterZero afterLevel ons (set levels (scanAt side side n) a) (stopWith a (getD ons n 0) n stop) a (n + 1)
+        → Reading side end afterZero afterLevel ons (set levels (scanAt side side n) a)
+        (stopWith a (getD ons n 0) n stop) a (n + 1)
     reads h a e =
         record {
           place = stop-by (λ (s : ℕ). n + 1 ≤ s) a (getD ons n 0) n stop (omega arith) (omega arith);
           within = stop-by (λ (s : ℕ). s ≤ end) a (getD ons n 0) n stop (i .within) (omega (arith, i .within));
           room = length-set levels (scanAt side side n) a ∙ i .room;
-          blocks = λ p g kept s d c. follows p g kept s d c levels stop prev n (i .blocks p g kept s d c) h (i .within) (i .room) a e;
+          blocks = λ p g kept s d c. follows p g kept s d c levels stop prev n (i .blocks p g kept s d c) h (i .within)
+              (i .room) a e;
         }
 
     pub read : stop ≤ n → ReadOff side end afterZero afterLevel ons levels
     read h p g kept s e d =
-        let f = i .blocks p g kept s e d in
-        (i .room, filled-all side levels (readOff (ruleBy p g) false (keptPlaces g side kept)) n (λ k l. f .tail k (omega arith)) (f .standing))
+        let f = i .blocks p g kept s e d in (
+          i .room,
+          filled-all side levels (readOff (ruleBy p g) false (keptPlaces g side kept)) n
+              (λ k l. f .tail k (omega arith)) (f .standing),
+        )

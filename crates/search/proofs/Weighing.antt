@@ -1,4 +1,5 @@
--- One place weighed as code does it: ending or going on behind a nonzero level, and then the one offer against 0, each at its price.
+-- One place weighed as code does it: ending or going on behind a nonzero level, and then the one offer against 0, each
+-- at its price.
 -- Assumes nothing.
 use mathlib.Core.Path.{_≡_, ap}
 use mathlib.Core.Logic.{_⊎_, inl, inr}
@@ -63,7 +64,14 @@ module _ (p : Prices) (t : Ahead) (behind on : ℕ) where
 
     pub weighed : (z n : Choice) → ChosenOf (t .zero + d + p .zeros) (behind + offer .price + p .heads) (offer .level) z
         → ChosenOf (t .zero + d + p .zero) (behind + offer .price + p .head) (offer .level) n
-        → WeighedBy p g t L (record { ahead = record { zero = z .price; level = n .price; rest = t .rest + d }; zero = z .level; level = n .level; on = on })
+        → WeighedBy p g t L
+        (record {
+          ahead = record { zero = z .price; level = n .price; rest = t .rest + d };
+          zero = z .level;
+          level =
+              n .level;
+          on = on;
+        })
     weighed z n cz cn =
         record {
           zero = weighed-as (p .zeros) (p .heads) z cz;

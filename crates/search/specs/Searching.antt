@@ -1,5 +1,5 @@
--- What the functions of the search say to one another: least prices as code holds them, one place passed or weighed, what is chosen for
--- each place, and the block that is read off. The search itself is specs/Search.antt of `price`.
+-- What the functions of the search say to one another: least prices as code holds them, one place passed or weighed,
+-- what is chosen for each place, and the block that is read off. The search itself is specs/Search.antt of `price`.
 use mathlib.Core.Path.{_≡_}
 use mathlib.Core.Bool.{true, false, cond}
 use mathlib.Core.List.{List}
@@ -55,8 +55,10 @@ abbrev pub levelBy : Prices → Scale → Ahead → ℕ → ℕ
 levelBy p g t L = behindBy p t + bare p g L (offered true p g L)
 
 pub record WeighedBy (p : Prices) (g : Scale) (t : Ahead) (L : ℕ) (r : Weighed) : Type 0 where
-  pub zero : ChosenOf (zeroBy g t L + p .zeros) (levelBy p g t L + p .heads) (offered true p g L) (record { level = r .zero; price = r .ahead .zero })
-  pub level : ChosenOf (zeroBy g t L + p .zero) (levelBy p g t L + p .head) (offered true p g L) (record { level = r .level; price = r .ahead .level })
+  pub zero : ChosenOf (zeroBy g t L + p .zeros) (levelBy p g t L + p .heads) (offered true p g L)
+      (record { level = r .zero; price = r .ahead .zero })
+  pub level : ChosenOf (zeroBy g t L + p .zero) (levelBy p g t L + p .head) (offered true p g L)
+      (record { level = r .level; price = r .ahead .level })
   pub rest : r .ahead .rest ≡ t .rest + distortion (g .shift) (g .error) L 0
   pub on : r .on ≡ cond (ltb (t .level + p .more) (t .rest + p .last)) 1 0
   pub offer : (1 ≤ offered true p g L) × (bare p g L (offered true p g L) ≤ 2 ^ 61 + 2 ^ 59)
@@ -90,14 +92,19 @@ pub record Sought (p : Prices) (g : Scale) (side : ℕ) (kept : List ℕ) : Type
   pub weighable : Weighable p g side kept
   pub small : uncoded (ruleBy p g) (keptPlaces g side kept) ≤ 2 ^ 60
 
--- what is chosen at each place from n to `end`: the magnitude taken after a 0 and after a nonzero level, and whether a nonzero one goes on
-pub record Decided (p : Prices) (g : Scale) (side : ℕ) (kept : List ℕ) (n end : ℕ) (afterZero afterLevel ons : List ℕ) : Type 0 where
+-- what is chosen at each place from n to `end`: the magnitude taken after a 0 and after a nonzero level, and whether a
+-- nonzero one goes on
+pub record Decided (p : Prices) (g : Scale) (side : ℕ) (kept : List ℕ) (n end : ℕ)
+    (afterZero afterLevel ons : List ℕ) : Type 0 where
   pub zero : (k : ℕ) → n ≤ k → k < end
-      → getD afterZero k 0 ≡ taken (ruleBy p g) true (getD (keptPlaces g side kept) k 0) (from g side kept (suc k)) (ahead (ruleBy p g) (from g side kept (suc k)))
+      → getD afterZero k 0 ≡ taken (ruleBy p g) true (getD (keptPlaces g side kept) k 0) (from g side kept (suc k))
+      (ahead (ruleBy p g) (from g side kept (suc k)))
   pub level : (k : ℕ) → n ≤ k → k < end
-      → getD afterLevel k 0 ≡ taken (ruleBy p g) false (getD (keptPlaces g side kept) k 0) (from g side kept (suc k)) (ahead (ruleBy p g) (from g side kept (suc k)))
+      → getD afterLevel k 0 ≡ taken (ruleBy p g) false (getD (keptPlaces g side kept) k 0) (from g side kept (suc k))
+      (ahead (ruleBy p g) (from g side kept (suc k)))
   pub on : (k : ℕ) → n ≤ k → k < end → 1 ≤ keptAt side kept k
-      → getD ons k 0 ≡ cond (goesOn (ruleBy p g) (from g side kept (suc k)) (ahead (ruleBy p g) (from g side kept (suc k)))) 1 0
+      → getD ons k 0
+      ≡ cond (goesOn (ruleBy p g) (from g side kept (suc k)) (ahead (ruleBy p g) (from g side kept (suc k)))) 1 0
 
 -- ---- forth
 -- how many places are read off, once place n has taken a
@@ -107,7 +114,8 @@ stopWith a on n stop = cond (isZero a) stop (cond (isZero on) (n + 1) stop)
 -- what is read off where that is chosen
 abbrev pub ReadOff : (side end : ℕ) (afterZero afterLevel on after : List ℕ) → Type 0
 ReadOff side end afterZero afterLevel on after =
-    (p : Prices) (g : Scale) (kept : List ℕ) → Sound g → Ends side kept end → Decided p g side kept 0 end afterZero afterLevel on
+    (p : Prices) (g : Scale) (kept : List ℕ) → Sound g → Ends side kept end
+    → Decided p g side kept 0 end afterZero afterLevel on
     → (length after ≡ side * side) × Standing side after (readOff (ruleBy p g) false (keptPlaces g side kept))
 
 -- ---- the whole
@@ -122,6 +130,7 @@ pub record Findable (p : Prices) (g : Scale) (d side : ℕ) (kept scanned levels
 
 -- the block found, by rows, and its price: D is over the whole block, of which less is kept
 pub record FoundOver (p : Prices) (g : Scale) (d side : ℕ) (kept after : List ℕ) (r : ℕ) : Type 0 where
-  pub price : some r ≡ plus (d - uncoded (ruleBy p g) (keptPlaces g side kept)) (foundPrice (ruleBy p g) (keptPlaces g side kept))
+  pub price : some r ≡ plus (d - uncoded (ruleBy p g) (keptPlaces g side kept))
+      (foundPrice (ruleBy p g) (keptPlaces g side kept))
   pub room : length after ≡ side * side
   pub levels : Standing side after (found (ruleBy p g) (keptPlaces g side kept))

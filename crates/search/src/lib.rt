@@ -1,5 +1,6 @@
-// The search for the cheapest block of all, in two passes: back along the scan with the least price of what is still to come, after a 0 and
-// after a nonzero level; then forth, reading off what was chosen. Its block and its price are the definition's (specs/Cheapest.antt of `price`).
+// The search for the cheapest block of all, in two passes: back along the scan with the least price of what is still to
+// come, after a 0 and after a nonzero level; then forth, reading off what was chosen. Its block and its price are the
+// definition's (specs/Cheapest.antt of `price`).
 use crate::passes::last_place;
 use crate::passes::look_back;
 use crate::passes::read_off;
@@ -13,7 +14,8 @@ ghost use Rattle.search.specs.Searching.{Findable, FoundOver};
 mod passes;
 mod place;
 
-// The cheapest block of what is kept, found in three rooms that have the block's length, and its price where the block's D is d.
+// The cheapest block of what is kept, found in three rooms that have the block's length, and its price where the
+// block's D is d.
 fn find_in(
     kept: &[u16],
     levels: &mut [u16],
@@ -27,7 +29,9 @@ fn find_in(
     after_level: &mut [u16],
     goes_on: &mut [u16],
 ) -> u64
-    requires { ⌜ Findable p g d side (now kept) (now scan) (now levels) count × (length (now «after_zero») ≡ side * side) × (length (now «after_level») ≡ side * side) × (length (now «goes_on») ≡ side * side) ⌝ }
+    requires { ⌜ Findable p g d side (now kept) (now scan) (now levels) count
+        × (length (now «after_zero») ≡ side * side) × (length (now «after_level») ≡ side * side)
+        × (length (now «goes_on») ≡ side * side) ⌝ }
     ensures { λ r. ⌜ FoundOver p g d side (now (kept .entry)) (now (levels .exit)) r ⌝ }
 {
     let end = last_place(kept, scan, side, count);

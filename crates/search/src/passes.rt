@@ -30,7 +30,8 @@ pub fn last_place(kept: &[u16], scan: &[u16], side: usize, count: usize) -> usiz
     n
 }
 
-// Back from `end`: for each place the magnitude to take after a 0, that after a nonzero level, and whether a nonzero one goes on.
+// Back from `end`: for each place the magnitude to take after a 0, that after a nonzero level, and whether a nonzero
+// one goes on.
 pub fn look_back(
     kept: &[u16],
     scan: &[u16],
@@ -42,8 +43,12 @@ pub fn look_back(
     after_level: &mut [u16],
     goes_on: &mut [u16],
 ) -> Ahead
-    requires { ⌜ Scanned side (now scan) × Sought p g side (now kept) × Ends side (now kept) end × (length (now «after_zero») ≡ side * side) × (length (now «after_level») ≡ side * side) × (length (now «goes_on») ≡ side * side) ⌝ }
-    ensures { λ r. ⌜ Known p g side (now (kept .entry)) 0 r × Decided p g side (now (kept .entry)) 0 end (now («after_zero» .exit)) (now («after_level» .exit)) (now («goes_on» .exit)) ⌝ }
+    requires { ⌜ Scanned side (now scan) × Sought p g side (now kept) × Ends side (now kept) end
+        × (length (now «after_zero») ≡ side * side) × (length (now «after_level») ≡ side * side)
+        × (length (now «goes_on») ≡ side * side) ⌝ }
+    ensures { λ r. ⌜ Known p g side (now (kept .entry)) 0 r
+        × Decided p g side (now (kept .entry)) 0 end (now («after_zero» .exit)) (now («after_level» .exit))
+        (now («goes_on» .exit)) ⌝ }
 {
     let mut t = Ahead {
         zero: 9223372036854775808,
@@ -90,8 +95,11 @@ pub fn read_off(
     after_level: &[u16],
     goes_on: &[u16],
 )
-    requires { ⌜ Scanned side (now scan) × (end ≤ side * side) × (length (now levels) ≡ side * side) × Cleared (now levels) × (length (now «after_zero») ≡ side * side) × (length (now «after_level») ≡ side * side) × (length (now «goes_on») ≡ side * side) ⌝ }
-    ensures { λ _. ⌜ ReadOff side end (now («after_zero» .entry)) (now («after_level» .entry)) (now («goes_on» .entry)) (now (levels .exit)) ⌝ }
+    requires { ⌜ Scanned side (now scan) × (end ≤ side * side) × (length (now levels) ≡ side * side)
+        × Cleared (now levels) × (length (now «after_zero») ≡ side * side) × (length (now «after_level») ≡ side * side)
+        × (length (now «goes_on») ≡ side * side) ⌝ }
+    ensures { λ _. ⌜ ReadOff side end (now («after_zero» .entry)) (now («after_level» .entry)) (now («goes_on» .entry))
+        (now (levels .exit)) ⌝ }
 {
     let mut stop = end;
     let mut prev: u16 = 1;

@@ -1,4 +1,5 @@
-// One place of the search: passed where its m is 0, else weighed. What a magnitude costs here is added to the least price of what it leaves to come.
+// One place of the search: passed where its m is 0, else weighed. What a magnitude costs here is added to the least
+// price of what it leaves to come.
 use rule::errors::squared_below;
 use rule::offers::make_offer;
 use rule::prices::Prices;
@@ -6,8 +7,8 @@ use rule::scale::Scale;
 ghost use mathlib.Core.Path.{_≡_};
 ghost use Rattle.search.specs.Searching.{ChosenOf, Passable, passedBy, Ready, WeighedBy};
 
-// What is known from a place on. zero, level: the least price of what has a nonzero level still to come, after a 0 and after a nonzero level,
-// 2^63 and more where there is none; rest: the uncoded squares.
+// What is known from a place on. zero, level: the least price of what has a nonzero level still to come, after a 0 and
+// after a nonzero level, 2^63 and more where there is none; rest: the uncoded squares.
 pub struct Ahead {
     pub zero: u64,
     pub level: u64,
@@ -20,7 +21,8 @@ pub struct Choice {
     pub price: u64,
 }
 
-// A place weighed: what is known from it on, the magnitudes to take there after a 0 and after a nonzero level, and whether a nonzero one goes on.
+// A place weighed: what is known from it on, the magnitudes to take there after a 0 and after a nonzero level, and
+// whether a nonzero one goes on.
 pub struct Weighed {
     pub ahead: Ahead,
     pub zero: u64,

@@ -1,5 +1,5 @@
--- What the three-component call says of its inputs: past its early tests no fault of sides, settings, costs, length or residuals holds,
--- and an accepted one shows no fault of any component's coefficients either.
+-- What the three-component call says of its inputs: past its early tests no fault of sides, settings, costs, length or
+-- residuals holds, and an accepted one shows no fault of any component's coefficients either.
 -- Assumes nothing.
 use mathlib.Core.Path.{_≡_, sym, _∙_}
 use mathlib.Core.Bool.{true, false, _&&_}
@@ -16,7 +16,8 @@ use Rattle.refusals.proofs.First.{None, head-fails, rest-fails, no-fault-if-acc
 use Rattle.transform.specs.Call.{wild, sampleFault}
 use Rattle.price.specs.Lambda.{lambdaRefused}
 use Rattle.price.specs.Costs.{costRefused}
-use Rattle.subblock.specs.Call.{SubBlock, runs, settingsOf, area, stretch, quantOf, sideFault, costFault, lengthFault, inTrans, subBlockVerdict}
+use Rattle.subblock.specs.Call.{SubBlock, runs, settingsOf, area, stretch, quantOf, sideFault, costFault}
+use Rattle.subblock.specs.Call.{lengthFault, inTrans, subBlockVerdict}
 use Rattle.subblock.specs.Tested.{settingsFaults, bufferFaults, EarlyPassed}
 use Rattle.subblock.proofs.Stretches.{sample-of-stretch}
 use Rattle.subblock.proofs.Late.{lateOf, verdict-in-groups}
@@ -44,8 +45,10 @@ module _ (s : SubBlock) (e : verdict settingsFaults s ≡ accepted) where
       let f₅ = rest-fails s (rest-fails s (rest-fails s (rest-fails s f₁))) in
       of k (head-fails s f₅) (head-fails s (rest-fails s f₅)) (head-fails s (rest-fails s (rest-fails s f₅)))
     where
-      of : (k : Component) → (runs Y s && lambdaRefused (s .y .lambda)) ≡ false → (runs U s && lambdaRefused (s .u .lambda)) ≡ false
-          → (runs «V» s && lambdaRefused (s .v .lambda)) ≡ false → runs k s ≡ true → lambdaRefused (settingsOf k s .lambda) ≡ false
+      of : (k : Component) → (runs Y s && lambdaRefused (s .y .lambda)) ≡ false
+          → (runs U s && lambdaRefused (s .u .lambda)) ≡ false
+          → (runs «V» s && lambdaRefused (s .v .lambda)) ≡ false → runs k s ≡ true
+          → lambdaRefused (settingsOf k s .lambda) ≡ false
       of Y y u v = not-both (runs Y s) (lambdaRefused (s .y .lambda)) y
       of U y u v = not-both (runs U s) (lambdaRefused (s .u .lambda)) u
       of «V» y u v = not-both (runs «V» s) (lambdaRefused (s .v .lambda)) v
@@ -84,7 +87,8 @@ module _ (s : SubBlock) (ok : subBlockVerdict s ≡ accepted) where
 
   groups : (verdict settingsFaults s ≡ accepted) × (orElse (verdict bufferFaults s) late ≡ accepted)
   unfolding late
-  groups = both-accepted (verdict settingsFaults s) (orElse (verdict bufferFaults s) late) (sym (verdict-in-groups s) ∙ ok)
+  groups = both-accepted (verdict settingsFaults s) (orElse (verdict bufferFaults s) late) (sym (verdict-in-groups s)
+      ∙ ok)
 
   pub early-passed : EarlyPassed s
   early-passed = record { settings = groups .0; buffer = both-accepted (verdict bufferFaults s) late (groups .1) .0 }
@@ -97,7 +101,8 @@ module _ (s : SubBlock) (ok : subBlockVerdict s ≡ accepted) where
       let u = both-accepted (lateOf U s) (lateOf «V» s) (y .1) in
       of k (y .0) (u .0) (u .1)
     where
-      of : (k : Component) → lateOf Y s ≡ accepted → lateOf U s ≡ accepted → lateOf «V» s ≡ accepted → lateOf k s ≡ accepted
+      of : (k : Component) → lateOf Y s ≡ accepted → lateOf U s ≡ accepted → lateOf «V» s ≡ accepted
+          → lateOf k s ≡ accepted
       of Y y u v = y
       of U y u v = u
       of «V» y u v = v

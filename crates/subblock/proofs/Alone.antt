@@ -1,7 +1,8 @@
--- Each component of the three-component call is coded as transform and quantiser alone code its stretch. Of an accepted call: the
--- transform accepts the stretch of a component that is run, the quantiser accepts what the transform left and answers the count and the
--- price that the call answers, and what the quantiser leaves is what then stands in the stretch. Of every call: a component not run
--- answers 0 and 0 and keeps its residuals, and the surplus stays. So no component is merely cleared, kept or made up.
+-- Each component of the three-component call is coded as transform and quantiser alone code its stretch. Of an accepted
+-- call: the transform accepts the stretch of a component that is run, the quantiser accepts what the transform left and
+-- answers the count and the price that the call answers, and what the quantiser leaves is what then stands in the
+-- stretch. Of every call: a component not run answers 0 and 0 and keeps its residuals, and the surplus stays. So no
+-- component is merely cleared, kept or made up.
 -- Assumes nothing.
 use mathlib.Core.Path.{_≡_, refl, sym, ap, _∙_}
 use mathlib.Core.Bool.{Bool, true, false, cond}
@@ -20,12 +21,15 @@ use Rattle.transform.proofs.Bounds.{coefficients-long, none-is-least}
 use Rattle.quantise.specs.Block as block
 use Rattle.quantise.specs.Block.{Quant, coding, countOf, priceOf, quantised}
 use Rattle.quantise.specs.Call as quant
-use Rattle.subblock.specs.Call.{SubBlock, runs, settingsOf, sideOf, area, start, stretch, transOf, quantOf, count, price, share, coded, outcome, levels, subBlockVerdict, subBlockAnswer, subBlockBuffer}
+use Rattle.subblock.specs.Call.{SubBlock, runs, settingsOf, sideOf, area, start, stretch, transOf, quantOf, count}
+use Rattle.subblock.specs.Call.{price, share, coded, outcome, levels, subBlockVerdict, subBlockAnswer}
+use Rattle.subblock.specs.Call.{subBlockBuffer}
 use Rattle.subblock.specs.Tested.{lateFaults, EarlyPassed}
 use Rattle.subblock.proofs.OneComponent.{side-high, side-inside, block-accepted, block-leaves}
 use Rattle.subblock.proofs.ThreeParts.{quantised-length}
 use Rattle.subblock.proofs.Late.{alone-late}
-use Rattle.subblock.proofs.Accepted.{sides-fine, qp-fine, lambda-fine, costs-fine, long-enough, residuals-tame, early-passed, late-passed}
+use Rattle.subblock.proofs.Accepted.{sides-fine, qp-fine, lambda-fine, costs-fine, long-enough, residuals-tame}
+use Rattle.subblock.proofs.Accepted.{early-passed, late-passed}
 use Rattle.subblock.proofs.Whole.{answer-alone, buffer-alone, answer-whole, buffer-whole, refused-leaves}
 
 -- what stands in a component's stretch after the call, and behind all three
@@ -38,7 +42,8 @@ behind s l = drop (start «V» s + area «V» s) l
 -- the quantiser's call on what the transform alone leaves of a component's stretch
 abbrev pub quantAfter : Component → SubBlock → Quant
 quantAfter k s =
-    coding (s .mode) (transBuffer (transOf k s)) (sideOf k (s .lw)) (sideOf k (s .lh)) k (settingsOf k s) (s .intraSlice) (s .intraCoded) (s .costs)
+    coding (s .mode) (transBuffer (transOf k s)) (sideOf k (s .lw)) (sideOf k (s .lh)) k (settingsOf k s)
+    (s .intraSlice) (s .intraCoded) (s .costs)
 
 -- ---- where the stretches stand
 double : (l : ℕ) → 1 ≤ l → 2 ^ l ≡ 2 * 2 ^ (l - 1)
@@ -76,7 +81,8 @@ module _ (s : SubBlock) (early : EarlyPassed s) where
 
 -- what stands behind two lists
 behind-two : (a b r : List ℤ) (n m : ℕ) → length a ≡ n → length b ≡ m → drop (n + m) (a ++ (b ++ r)) ≡ r
-behind-two a b r n m ea eb = sym (drop-drop m n (a ++ (b ++ r))) ∙ ap (drop m) (drop-at a (b ++ r) n ea) ∙ drop-at b r m eb
+behind-two a b r n m ea eb = sym (drop-drop m n (a ++ (b ++ r))) ∙ ap (drop m) (drop-at a (b ++ r) n ea)
+    ∙ drop-at b r m eb
 
 -- ---- an accepted call
 module _ (s : SubBlock) (ok : subBlockVerdict s ≡ accepted) where
@@ -97,7 +103,8 @@ module _ (s : SubBlock) (ok : subBlockVerdict s ≡ accepted) where
   from Y = buffer-whole s ok
   from U = ap (drop (area Y s)) (buffer-whole s ok) ∙ drop-at (levels Y s) (tail Y) (area Y s) (long Y)
   from «V» =
-      ap (drop (area Y s + area U s)) (buffer-whole s ok) ∙ behind-two (levels Y s) (levels U s) (tail U) (area Y s) (area U s) (long Y) (long U)
+      ap (drop (area Y s + area U s)) (buffer-whole s ok)
+      ∙ behind-two (levels Y s) (levels U s) (tail U) (area Y s) (area U s) (long Y) (long U)
 
   pub left-is : (k : Component) → leftIn k s ≡ levels k s
   left-is k = ap (take (area k s)) (from k) ∙ take-at (levels k s) (tail k) (area k s) (long k)
@@ -132,16 +139,19 @@ module _ (s : SubBlock) (ok : subBlockVerdict s ≡ accepted) where
     unfolding transOf places quantOf
     after-is =
         ap
-        (λ (b : List ℤ). coding (s .mode) b (sideOf k (s .lw)) (sideOf k (s .lh)) k (settingsOf k s) (s .intraSlice) (s .intraCoded) (s .costs))
+        (λ (b : List ℤ). coding (s .mode) b (sideOf k (s .lw)) (sideOf k (s .lh)) k (settingsOf k s) (s .intraSlice)
+        (s .intraCoded) (s .costs))
         (block-leaves (transOf k s) wide high fills (residuals-tame s (early .buffer) k run))
 
     quantiser-accepts : quant.quantVerdict (quantOf k s) ≡ accepted
     unfolding quantOf transOf coding block.area
     quantiser-accepts =
         let i = sides-fine s (early .settings) in
-        alone-late (quantOf k s) wide high (qp-fine s (early .settings) k run) (lambda-fine s (early .settings) k run) (costs-fine s (early .buffer))
+        alone-late (quantOf k s) wide high (qp-fine s (early .settings) k run) (lambda-fine s (early .settings) k run)
+        (costs-fine s (early .buffer))
         (omega (arith, coefficients-long (stretch k s) (sideOf k (s .lw)) (sideOf k (s .lh))))
-        (none-is-least (sideOf k (s .lw)) (sideOf k (s .lh)) (side-high k (s .lw) (i .0 .1)) (side-high k (s .lh) (i .1 .1)) (stretch k s) fills
+        (none-is-least (sideOf k (s .lw)) (sideOf k (s .lh)) (side-high k (s .lw) (i .0 .1))
+        (side-high k (s .lh) (i .1 .1)) (stretch k s) fills
         (residuals-tame s (early .buffer) k run))
         ∙ ap (λ (t : Bool). cond t (verdict lateFaults (quantOf k s)) accepted) (sym run)
         ∙ late-passed s ok k
@@ -163,7 +173,8 @@ module _ (s : SubBlock) (ok : subBlockVerdict s ≡ accepted) where
 
 -- ---- every call
 -- refused, it leaves what the buffer held
-pub refused-left : (s : SubBlock) (n c : ℕ) → subBlockVerdict s ≡ refused n c → (k : Component) → leftIn k s ≡ stretch k s
+pub refused-left : (s : SubBlock) (n c : ℕ) → subBlockVerdict s ≡ refused n c → (k : Component)
+    → leftIn k s ≡ stretch k s
 unfolding stretch
 refused-left s n c v k = ap (λ (l : List ℤ). take (area k s) (drop (start k s) l)) (refused-leaves s n c v)
 

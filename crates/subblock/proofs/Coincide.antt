@@ -23,8 +23,10 @@ tells (answers.Coded y u v) (answers.Coded y′ u′ v′) e =
     let b : u ≡ u′ = share-tells u u′ (cc) in
     let c : v ≡ v′ = share-tells v v′ (cc) in
     cc
-tells (answers.Coded y u v) (answers.Refused w k) e = absurd (let z : _≡_ {A = ℕ} 0 1 = cc in let no : ⊥ = omega arith in no)
-tells (answers.Refused w k) (answers.Coded y u v) e = absurd (let z : _≡_ {A = ℕ} 0 1 = cc in let no : ⊥ = omega arith in no)
+tells (answers.Coded y u v) (answers.Refused w k) e =
+    absurd (let z : _≡_ {A = ℕ} 0 1 = cc in let no : ⊥ = omega arith in no)
+tells (answers.Refused w k) (answers.Coded y u v) e =
+    absurd (let z : _≡_ {A = ℕ} 0 1 = cc in let no : ⊥ = omega arith in no)
 tells (answers.Refused w k) (answers.Refused x j) e =
     let f : w ≡ x = number-tells w x (cc) in
     let g : k ≡ j = component-tells k j (cc) in
@@ -34,4 +36,5 @@ pub sub-block-fixed : (buffer : List ℤ) (q : Request) (r₁ r₂ : SubBlockAns
     → paperOf r₁ ≡ subBlockAnswer (requested buffer q) → b₁ ≡ subBlockBuffer (requested buffer q)
     → paperOf r₂ ≡ subBlockAnswer (requested buffer q) → b₂ ≡ subBlockBuffer (requested buffer q)
     → (r₁ ≡ r₂) × (b₁ ≡ b₂)
-sub-block-fixed buffer q = coincide paperOf tells (subBlockAnswer (requested buffer q)) (subBlockBuffer (requested buffer q))
+sub-block-fixed buffer q =
+    coincide paperOf tells (subBlockAnswer (requested buffer q)) (subBlockBuffer (requested buffer q))

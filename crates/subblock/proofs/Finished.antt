@@ -1,5 +1,5 @@
--- The end of the three-component call: from what the three components answered and left in their room to the definition's answer and
--- buffer.
+-- The end of the three-component call: from what the three components answered and left in their room to the
+-- definition's answer and buffer.
 -- Assumes nothing.
 use mathlib.Core.Path.{_≡_, sym, ap, subst, _∙_}
 use mathlib.Core.List.{List, _++_}
@@ -16,7 +16,8 @@ use Rattle.quantise.specs.declared.Coded.{Coded}
 use Rattle.subblock.specs.declared.Request.{Request}
 use Rattle.subblock.specs.declared.SubBlockAnswer.{SubBlockAnswer}
 use Rattle.subblock.specs.declared.SubBlockAnswer.the-variants as answers
-use Rattle.subblock.specs.Call.{SubBlock, requested, Share, shareOf, share, refusedWith, outcome, stretch, subBlockVerdict, subBlockAnswer, subBlockBuffer, paperOf}
+use Rattle.subblock.specs.Call.{SubBlock, requested, Share, shareOf, share, refusedWith, outcome, stretch}
+use Rattle.subblock.specs.Call.{subBlockVerdict, subBlockAnswer, subBlockBuffer, paperOf}
 use Rattle.subblock.specs.Tested.{settingsFaults, bufferFaults, Sizes, EarlyPassed}
 use Rattle.subblock.specs.Parts.{Ready, partAnswer, partLeft, residuals, AllReady, joined, Parted}
 use Rattle.subblock.proofs.Passed.{room, stretch-is, all-ready}
@@ -37,7 +38,10 @@ module _ (b : List ℤ) (q : Request) (m k : ℕ) where
   whole-refused : subBlockVerdict (requested b q) ≡ refused m k
       → (refusedWith m k ≡ subBlockAnswer (requested b q)) × (b ≡ subBlockBuffer (requested b q))
   unfolding requested
-  whole-refused v = (sym (answer-whole s ∙ ap (λ (x : Verdict). outcome x (share Y s) (share U s) (share «V» s)) v), sym (refused-leaves s m k v))
+  whole-refused v = (
+    sym (answer-whole s ∙ ap (λ (x : Verdict). outcome x (share Y s) (share U s) (share «V» s)) v),
+    sym (refused-leaves s m k v),
+  )
     where
       s : SubBlock
       s = requested b q
@@ -46,7 +50,8 @@ module _ (b : List ℤ) (q : Request) (m k : ℕ) where
       → (refusedWith m k ≡ subBlockAnswer (requested b q)) × (b ≡ subBlockBuffer (requested b q))
   settings-refused e = whole-refused (verdict-in-groups (requested b q) ∙ rw e)
 
-  pub buffer-refused : verdict settingsFaults (requested b q) ≡ accepted → verdict bufferFaults (requested b q) ≡ refused m k
+  pub buffer-refused : verdict settingsFaults (requested b q) ≡ accepted → verdict bufferFaults (requested b q)
+      ≡ refused m k
       → (refusedWith m k ≡ subBlockAnswer (requested b q)) × (b ≡ subBlockBuffer (requested b q))
   buffer-refused e f = whole-refused (verdict-in-groups (requested b q) ∙ rw (e, f))
 
@@ -69,34 +74,42 @@ module _ (b : List ℤ) (q : Request) (n : ℕ) (z : Sizes (q .side) n) (passed 
   ready U = subst (λ (r : List ℤ). Ready U q r) (is U) (all .u)
   ready «V» = subst (λ (r : List ℤ). Ready «V» q r) (is «V») (all .v)
 
-  module _ (before after : List ℤ) (r : SubBlockAnswer) (copied : before ≡ take (n + n / 4 + n / 4 - 0) b) (done : Parted q n before after r) where
+  module _ (before after : List ℤ) (r : SubBlockAnswer) (copied : before ≡ take (n + n / 4 + n / 4 - 0) b)
+      (done : Parted q n before after r) where
     p : Parted q n space after r
     p = subst (λ (l : List ℤ). Parted q n l after r) (front b before (n + n / 4 + n / 4) copied) done
 
     pub finished-answer : paperOf r ≡ subBlockAnswer s
     finished-answer =
         p .answer
-        ∙ ap (λ (l : List ℤ). joined (partAnswer Y q l) (partAnswer U q (residuals U n space)) (partAnswer «V» q (residuals «V» n space))) (is Y)
-        ∙ ap (λ (l : List ℤ). joined (partAnswer Y q (stretch Y s)) (partAnswer U q l) (partAnswer «V» q (residuals «V» n space))) (is U)
-        ∙ ap (λ (l : List ℤ). joined (partAnswer Y q (stretch Y s)) (partAnswer U q (stretch U s)) (partAnswer «V» q l)) (is «V»)
+        ∙ ap (λ (l : List ℤ). joined (partAnswer Y q l) (partAnswer U q (residuals U n space))
+        (partAnswer «V» q (residuals «V» n space))) (is Y)
+        ∙ ap (λ (l : List ℤ). joined (partAnswer Y q (stretch Y s)) (partAnswer U q l)
+        (partAnswer «V» q (residuals «V» n space))) (is U)
+        ∙ ap (λ (l : List ℤ). joined (partAnswer Y q (stretch Y s)) (partAnswer U q (stretch U s)) (partAnswer «V» q l))
+        (is «V»)
         ∙ answer-is b q n z ready (passed .settings) (passed .buffer)
 
     in-words : paperOf r ≡ outcome (subBlockVerdict s) (share Y s) (share U s) (share «V» s)
     in-words = finished-answer ∙ answer-whole s
 
-    pub finished-coded : (x y w : Coded) → r ≡ answers.Coded x y w → subBlockBuffer s ≡ after ++ drop (n + n / 4 + n / 4) b
+    pub finished-coded : (x y w : Coded) → r ≡ answers.Coded x y w
+        → subBlockBuffer s ≡ after ++ drop (n + n / 4 + n / 4) b
     finished-coded x y w e =
         let c = ap paperOf e in
         coded-leaves b q n z ready (passed .settings) (passed .buffer)
         (coded-accepted s (shareOf x) (shareOf y) (shareOf w) (sym finished-answer ∙ c))
         after
         (p .left (shareOf x) (shareOf y) (shareOf w) c
-        ∙ ap (λ (l : List ℤ). partLeft Y q l ++ (partLeft U q (residuals U n space) ++ partLeft «V» q (residuals «V» n space))) (is Y)
-        ∙ ap (λ (l : List ℤ). partLeft Y q (stretch Y s) ++ (partLeft U q l ++ partLeft «V» q (residuals «V» n space))) (is U)
+        ∙ ap (λ (l : List ℤ). partLeft Y q l
+        ++ (partLeft U q (residuals U n space) ++ partLeft «V» q (residuals «V» n space))) (is Y)
+        ∙ ap (λ (l : List ℤ). partLeft Y q (stretch Y s) ++ (partLeft U q l ++ partLeft «V» q (residuals «V» n space)))
+        (is U)
         ∙ ap (λ (l : List ℤ). partLeft Y q (stretch Y s) ++ (partLeft U q (stretch U s) ++ partLeft «V» q l)) (is «V»))
 
     pub finished-refused : (why : Refusal) (k : Component) → r ≡ answers.Refused why k → subBlockBuffer s ≡ b
     unfolding requested
     finished-refused why k e =
         refused-leaves s (numberOf why) (componentOf k)
-        (refused-verdict (subBlockVerdict s) (share Y s) (share U s) (share «V» s) (numberOf why) (componentOf k) (sym in-words ∙ ap paperOf e))
+        (refused-verdict (subBlockVerdict s) (share Y s) (share U s) (share «V» s) (numberOf why) (componentOf k)
+        (sym in-words ∙ ap paperOf e))

@@ -1,5 +1,5 @@
--- The verdict of the three-component call once its early tests have passed: the first of the verdicts that the quantiser alone gives of
--- Y, then U, then V, of those that are run.
+-- The verdict of the three-component call once its early tests have passed: the first of the verdicts that the
+-- quantiser alone gives of Y, then U, then V, of those that are run.
 -- Assumes nothing.
 use mathlib.Core.Path.{_≡_, refl, sym, ap, _∙_}
 use mathlib.Core.Bool.{Bool, true, false, cond, _&&_}
@@ -40,7 +40,8 @@ module _ (k : Component) (s : SubBlock) where
     where
       by : (t h : Bool) → verdict (map (inQuant k) fs) s ≡ cond t (verdict fs (quantOf k s)) accepted
           → cond (t && h) (refused (numberOf (f .refusal)) (componentOf k)) (verdict (map (inQuant k) fs) s)
-          ≡ cond t (cond h (refused (numberOf (f .refusal)) (componentOf (f .component (quantOf k s)))) (verdict fs (quantOf k s))) accepted
+          ≡ cond t (cond h (refused (numberOf (f .refusal)) (componentOf (f .component (quantOf k s))))
+          (verdict fs (quantOf k s))) accepted
       by true true i = ap (λ (c : Component). refused (numberOf (f .refusal)) (componentOf c)) (sym e)
       by true false i = i
       by false h i = i
@@ -52,7 +53,9 @@ module _ (k : Component) (s : SubBlock) where
 
 -- the list of the call in its groups
 in-groups : subBlockFaults
-    ≡ settingsFaults ++ (bufferFaults ++ (map (inQuant Y) lateFaults ++ (map (inQuant U) lateFaults ++ map (inQuant «V») lateFaults)))
+    ≡ settingsFaults
+    ++ (bufferFaults
+    ++ (map (inQuant Y) lateFaults ++ (map (inQuant U) lateFaults ++ map (inQuant «V») lateFaults)))
 unfolding subBlockFaults settingsFaults bufferFaults lateFaults
 in-groups = refl
 
@@ -86,7 +89,8 @@ verdict-in-groups s =
 
 -- ---- the quantiser alone gives the same verdict of a component whose early tests have passed
 earlyFaults : List (Fault Quant)
-earlyFaults = quant.sideFault ∷ quant.qpFault ∷ quant.lambdaFault ∷ quant.costFault ∷ quant.lengthFault ∷ quant.sampleFault ∷ []
+earlyFaults =
+    quant.sideFault ∷ quant.qpFault ∷ quant.lambdaFault ∷ quant.costFault ∷ quant.lengthFault ∷ quant.sampleFault ∷ []
 
 alone-in-groups : quant.quantFaults ≡ earlyFaults ++ lateFaults
 unfolding quant.quantFaults lateFaults earlyFaults
@@ -96,14 +100,18 @@ alone-is : (c : Quant) → quant.quantVerdict c ≡ verdict quant.quantFaults c
 unfolding quant.quantVerdict
 alone-is c = refl
 
-module _ (c : Quant) (wide : outside 1 5 (c .lw) ≡ false) (high : outside 1 5 (c .lh) ≡ false) (qp : ltb 63 (c .settings .qp) ≡ false)
-    (lambda : lambdaRefused (c .settings .lambda) ≡ false) (costs : costRefused (c .costs) ≡ false) (long : area c ≤ length (c .buffer))
+module _ (c : Quant) (wide : outside 1 5 (c .lw) ≡ false) (high : outside 1 5 (c .lh) ≡ false)
+    (qp : ltb 63 (c .settings .qp) ≡ false)
+    (lambda : lambdaRefused (c .settings .lambda) ≡ false) (costs : costRefused (c .costs) ≡ false)
+    (long : area c ≤ length (c .buffer))
     (small : some (λ z. eqℤ z (negsuc 32767)) (take (area c) (c .buffer)) ≡ false) where
   early-passes : verdict earlyFaults c ≡ accepted
-  unfolding earlyFaults quant.sideFault quant.qpFault quant.lambdaFault quant.costFault quant.lengthFault quant.sampleFault
+  unfolding earlyFaults quant.sideFault quant.qpFault quant.lambdaFault quant.costFault quant.lengthFault
+      quant.sampleFault
   early-passes =
       accepted-without-a-fault c earlyFaults
-      (but (rw (wide, high)) (but qp (but lambda (but costs (but (le-ltb (length (c .buffer)) (area c) long) (but small end))))))
+      (but (rw (wide, high))
+      (but qp (but lambda (but costs (but (le-ltb (length (c .buffer)) (area c) long) (but small end))))))
 
   pub alone-late : quant.quantVerdict c ≡ verdict lateFaults c
   alone-late =

@@ -1,6 +1,6 @@
--- Luma's count, price and levels in an accepted call depend on no chroma setting, cost or sample: two accepted calls that agree on
--- luma's sides, settings and residuals, on whether luma is run, on the two flags and on the rows of the cost tables that luma reads, agree
--- on what is answered of luma and on what is left in its stretch.
+-- Luma's count, price and levels in an accepted call depend on no chroma setting, cost or sample: two accepted calls
+-- that agree on luma's sides, settings and residuals, on whether luma is run, on the two flags and on the rows of the
+-- cost tables that luma reads, agree on what is answered of luma and on what is left in its stretch.
 -- Assumes nothing.
 use mathlib.Core.Path.{_≡_, refl, sym, ap, _∙_}
 use mathlib.Core.Bool.{Bool, true, false, cond}
@@ -17,7 +17,8 @@ use Rattle.rule.specs.Rows.{rowsOf}
 use Rattle.quantise.specs.Block.{Quant, coding, countOf, priceOf, quantised}
 use Rattle.quantise.proofs.OwnRows.{SamePair, SameRows}
 use Rattle.quantise.proofs.OwnRows as own
-use Rattle.subblock.specs.Call.{SubBlock, runs, stretch, transOf, quantOf, count, price, Share, share, coded, levels, subBlockAnswer}
+use Rattle.subblock.specs.Call.{SubBlock, runs, stretch, transOf, quantOf, count, price, Share, share, coded}
+use Rattle.subblock.specs.Call.{levels, subBlockAnswer}
 use Rattle.subblock.proofs.Whole.{coded-accepted}
 use Rattle.subblock.proofs.Alone.{leftIn, left-is, answer-of-three}
 
@@ -71,7 +72,8 @@ module _ (s t : SubBlock) (same : SameLuma s t) where
   unfolding quantOf transOf
   moved =
       λ i.
-      coding (same .mode i) (coefficients (same .residuals i) (same .lw i) (same .lh i)) (same .lw i) (same .lh i) Y (same .settings i) (same .slice i)
+      coding (same .mode i) (coefficients (same .residuals i) (same .lw i) (same .lh i)) (same .lw i) (same .lh i) Y
+      (same .settings i) (same .slice i)
       (same .coded i)
       (s .costs)
 
@@ -83,23 +85,27 @@ module _ (s t : SubBlock) (same : SameLuma s t) where
   rows = luma-rows (t .intraCoded) (s .costs) (t .costs) (same .costs)
 
   -- what depends on the cost tables by luma's rows alone
-  luma-by : {A : Type 0} (of : Quant → A) → of (by (s .costs)) ≡ of (by (t .costs)) → of (quantOf Y s) ≡ of (quantOf Y t)
+  luma-by : {A : Type 0} (of : Quant → A) → of (by (s .costs)) ≡ of (by (t .costs))
+      → of (quantOf Y s) ≡ of (quantOf Y t)
   luma-by of e = ap of moved ∙ e ∙ ap of (sym its-own)
 
   counts : countOf (quantOf Y s) ≡ countOf (quantOf Y t)
   counts =
       luma-by countOf
-      (own.count-same (t .mode) luma (t .lw) (t .lh) Y (t .y) (t .intraSlice) (t .intraCoded) (s .costs) (t .costs) rows)
+      (own.count-same (t .mode) luma (t .lw) (t .lh) Y (t .y) (t .intraSlice) (t .intraCoded) (s .costs) (t .costs)
+      rows)
 
   prices : priceOf (quantOf Y s) ≡ priceOf (quantOf Y t)
   prices =
       luma-by priceOf
-      (own.price-same (t .mode) luma (t .lw) (t .lh) Y (t .y) (t .intraSlice) (t .intraCoded) (s .costs) (t .costs) rows)
+      (own.price-same (t .mode) luma (t .lw) (t .lh) Y (t .y) (t .intraSlice) (t .intraCoded) (s .costs) (t .costs)
+      rows)
 
   written : quantised (quantOf Y s) ≡ quantised (quantOf Y t)
   written =
       luma-by quantised
-      (own.levels-same (t .mode) luma (t .lw) (t .lh) Y (t .y) (t .intraSlice) (t .intraCoded) (s .costs) (t .costs) rows)
+      (own.levels-same (t .mode) luma (t .lw) (t .lh) Y (t .y) (t .intraSlice) (t .intraCoded) (s .costs) (t .costs)
+      rows)
 
   pub luma-share : share Y s ≡ share Y t
   unfolding share count price

@@ -1,6 +1,7 @@
--- What is not run is not read: two calls that agree on luma's sides, on what is run, on the flags, the cost tables and the buffer's
--- length, and on settings and residuals of what is run, have the same answer, accepted or refused, and leave the same in the stretch of
--- each component that is run. Other bits of the run mask, settings and residuals of what is not run, and the surplus are not spoken of.
+-- What is not run is not read: two calls that agree on luma's sides, on what is run, on the flags, the cost tables and
+-- the buffer's length, and on settings and residuals of what is run, have the same answer, accepted or refused, and
+-- leave the same in the stretch of each component that is run. Other bits of the run mask, settings and residuals of
+-- what is not run, and the surplus are not spoken of.
 -- Assumes nothing.
 use mathlib.Core.Path.{_≡_, refl, sym, ap, _∙_}
 use mathlib.Core.Bool.{Bool, true, false, cond, _&&_, _||_}
@@ -17,7 +18,9 @@ use Rattle.transform.specs.Call as trans
 use Rattle.price.specs.Costs.{costRefused}
 use Rattle.quantise.specs.Block.{Quant, coding, countOf, priceOf, quantised}
 use Rattle.quantise.specs.Call as quant
-use Rattle.subblock.specs.Call.{SubBlock, runs, settingsOf, sideOf, area, stretch, transOf, quantOf, sideFault, costFault, lengthFault, inTrans, inQuant, subBlockFaults, count, price, share, outcome, levels, subBlockVerdict, subBlockAnswer, subBlockBuffer}
+use Rattle.subblock.specs.Call.{SubBlock, runs, settingsOf, sideOf, area, stretch, transOf, quantOf, sideFault}
+use Rattle.subblock.specs.Call.{costFault, lengthFault, inTrans, inQuant, subBlockFaults, count, price, share}
+use Rattle.subblock.specs.Call.{outcome, levels, subBlockVerdict, subBlockAnswer, subBlockBuffer}
 use Rattle.subblock.proofs.Whole.{answer-whole}
 use Rattle.subblock.proofs.Alone.{leftIn, behind, left-is, refused-left, surplus-stays}
 
@@ -36,20 +39,23 @@ pub record SameWhereRun (s t : SubBlock) : Type 0 where
 module _ (s t : SubBlock) (same : SameWhereRun s t) where
   trans-same : (k : Component) → runs k s ≡ true → transOf k s ≡ transOf k t
   unfolding transOf
-  trans-same k h = λ i. record { buffer = same .residuals k h i; lw = sideOf k (same .lw i); lh = sideOf k (same .lh i) }
+  trans-same k h =
+      λ i. record { buffer = same .residuals k h i; lw = sideOf k (same .lw i); lh = sideOf k (same .lh i) }
 
   quant-same : (k : Component) → runs k s ≡ true → quantOf k s ≡ quantOf k t
   unfolding quantOf transOf
   quant-same k h =
       λ i.
-      coding (same .mode i) (coefficients (same .residuals k h i) (sideOf k (same .lw i)) (sideOf k (same .lh i))) (sideOf k (same .lw i)) (sideOf k (same .lh i)) k
+      coding (same .mode i) (coefficients (same .residuals k h i) (sideOf k (same .lw i)) (sideOf k (same .lh i)))
+      (sideOf k (same .lw i)) (sideOf k (same .lh i)) k
       (same .settings k h i)
       (same .slice i)
       (same .coded i)
       (same .costs i)
 
   -- what is taken of a component only where it is run
-  where-run : {A I : Type 0} (pick : Bool → A → A) → ((x y : A) → pick false x ≡ pick false y) → (k : Component) (of : I → A) (i j : I)
+  where-run : {A I : Type 0} (pick : Bool → A → A) → ((x y : A) → pick false x ≡ pick false y)
+      → (k : Component) (of : I → A) (i j : I)
       → (runs k s ≡ true → i ≡ j) → pick (runs k s) (of i) ≡ pick (runs k t) (of j)
   where-run {A} {I} pick idle k of i j h = by (runs k s) refl ∙ ap (λ (b : Bool). pick b (of j)) (same .run k)
     where
@@ -58,17 +64,22 @@ module _ (s t : SubBlock) (same : SameWhereRun s t) where
       by false e = idle (of i) (of j)
 
   -- ---- the faults
-  trans-alike : (k : Component) (f : Fault Trans) {fs : List (Fault SubBlock)} → Alike s t fs → Alike s t (inTrans k f ∷ fs)
+  trans-alike : (k : Component) (f : Fault Trans) {fs : List (Fault SubBlock)} → Alike s t fs
+      → Alike s t (inTrans k f ∷ fs)
   unfolding inTrans
-  trans-alike k f r = next (where-run (λ b x. b && x) (λ x y. refl) k (f .holds) (transOf k s) (transOf k t) (trans-same k)) refl r
+  trans-alike k f r =
+      next (where-run (λ b x. b && x) (λ x y. refl) k (f .holds) (transOf k s) (transOf k t) (trans-same k)) refl r
 
-  quant-alike : (k : Component) (f : Fault Quant) {fs : List (Fault SubBlock)} → Alike s t fs → Alike s t (inQuant k f ∷ fs)
+  quant-alike : (k : Component) (f : Fault Quant) {fs : List (Fault SubBlock)} → Alike s t fs
+      → Alike s t (inQuant k f ∷ fs)
   unfolding inQuant
-  quant-alike k f r = next (where-run (λ b x. b && x) (λ x y. refl) k (f .holds) (quantOf k s) (quantOf k t) (quant-same k)) refl r
+  quant-alike k f r =
+      next (where-run (λ b x. b && x) (λ x y. refl) k (f .holds) (quantOf k s) (quantOf k t) (quant-same k)) refl r
 
   late-alike : (k : Component) {fs : List (Fault SubBlock)} → Alike s t fs
       → Alike s t (inQuant k quant.levelFault ∷ inQuant k quant.priceFault ∷ inQuant k quant.distortionFault ∷ fs)
-  late-alike k r = quant-alike k quant.levelFault (quant-alike k quant.priceFault (quant-alike k quant.distortionFault r))
+  late-alike k r =
+      quant-alike k quant.levelFault (quant-alike k quant.priceFault (quant-alike k quant.distortionFault r))
 
   alike : Alike s t subBlockFaults
   unfolding subBlockFaults sideFault costFault lengthFault area
@@ -92,7 +103,8 @@ module _ (s t : SubBlock) (same : SameWhereRun s t) where
   verdict-same = same-verdict s t subBlockFaults alike
 
   -- ---- the answer
-  or-none : (k : Component) (of : Quant → ℕ) → cond (runs k s) (of (quantOf k s)) 0 ≡ cond (runs k t) (of (quantOf k t)) 0
+  or-none : (k : Component) (of : Quant → ℕ) → cond (runs k s) (of (quantOf k s)) 0
+      ≡ cond (runs k t) (of (quantOf k t)) 0
   or-none k of = where-run (λ b n. cond b n 0) (λ x y. refl) k of (quantOf k s) (quantOf k t) (quant-same k)
 
   share-same : (k : Component) → share k s ≡ share k t
@@ -115,7 +127,9 @@ module _ (s t : SubBlock) (same : SameWhereRun s t) where
     where
       by : (v : Verdict) → subBlockVerdict s ≡ v → leftIn k s ≡ leftIn k t
       by accepted e = left-is s e k ∙ levels-same k h ∙ sym (left-is t (sym verdict-same ∙ e) k)
-      by (refused n c) e = refused-left s n c e k ∙ same .residuals k h ∙ sym (refused-left t n c (sym verdict-same ∙ e) k)
+      by (refused n c) e =
+          refused-left s n c e k ∙ same .residuals k h ∙ sym (refused-left t n c (sym verdict-same ∙ e) k)
 
-  pub same-surplus : behind s (s .buffer) ≡ behind t (t .buffer) → behind s (subBlockBuffer s) ≡ behind t (subBlockBuffer t)
+  pub same-surplus : behind s (s .buffer) ≡ behind t (t .buffer) → behind s (subBlockBuffer s)
+      ≡ behind t (subBlockBuffer t)
   same-surplus e = surplus-stays s ∙ e ∙ sym (surplus-stays t)

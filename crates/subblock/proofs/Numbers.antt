@@ -1,5 +1,6 @@
--- The three-component call with some and with all components run, and the order of its faults, computed over the definitions of the
--- call. The accepted answers were worked out by a program that shares nothing with these definitions.
+-- The three-component call with some and with all components run, and the order of its faults, computed over the
+-- definitions of the call. The accepted answers were worked out by a program that shares nothing with these
+-- definitions.
 -- Assumes nothing.
 use mathlib.Core.Path.{_≡_, refl}
 use mathlib.Core.Bool.{true}
@@ -11,7 +12,8 @@ use lib.Ieee.{nan}
 use Rattle.price.specs.declared.Costs.{Costs}
 use Rattle.price.specs.declared.Settings.{Settings}
 use Rattle.quantise.proofs.Numbers.{p, m, parts, at, tables, flat, usual}
-use Rattle.subblock.specs.Call.{SubBlock, called, calledIn, Share, coded, refusedWith, subBlockAnswer, subBlockBuffer}
+use Rattle.subblock.specs.Call.{SubBlock, called, calledIn, Share, coded, refusedWith, subBlockAnswer}
+use Rattle.subblock.specs.Call.{subBlockBuffer}
 
 -- ---- three components, luma 4×4
 abbrev of : ℕ → ℕ → Share
@@ -51,12 +53,14 @@ abbrev lv : List ℤ
 lv = p 22 ∷ m 2 ∷ m 6 ∷ p 17 ∷ []
 
 abbrev run : ℕ → SubBlock
-run mask = called (ry ++ (ru ++ (rv ++ behind))) 2 (at 22 (parts 4)) (at 16 (parts 32)) (at 10 (parts 1)) mask true true costs
+run mask = called (ry ++ (ru ++ (rv ++ behind))) 2 (at 22 (parts 4)) (at 16 (parts 32)) (at 10 (parts 1)) mask true true
+    costs
 
 abbrev Gives : SubBlock → (y u v : Share) → List ℤ → Type 0
 Gives s y u v after = (subBlockAnswer s ≡ coded y u v) × (subBlockBuffer s ≡ after)
 
--- each stretch is transformed and quantised as its component; one not run keeps its residuals; bits above 2 mean nothing
+-- each stretch is transformed and quantised as its component; one not run keeps its residuals; bits above 2 mean
+-- nothing
 pub components :
     Gives (run 7) (of 13 3656155240) (of 4 433324064) (of 4 68263937) (ly ++ (lu ++ (lv ++ behind)))
     × Gives (run 5) (of 13 3656155240) none (of 4 68263937) (ly ++ (ru ++ (lv ++ behind)))
@@ -113,4 +117,20 @@ pub order :
     × Refuses (faulty 2 wild high high good 4 (flat 1048576)) 6 2
     × Gives (faulty 2 wild high high high 248 (flat 1048576)) none none none wild
 unfolding calledIn subBlockAnswer subBlockBuffer
-order = ((refl, refl), (refl, refl), (refl, refl), (refl, refl), (refl, refl), (refl, refl), (refl, refl), (refl, refl), (refl, refl), (refl, refl), (refl, refl), (refl, refl), (refl, refl), (refl, refl), (refl, refl))
+order = (
+  (refl, refl),
+  (refl, refl),
+  (refl, refl),
+  (refl, refl),
+  (refl, refl),
+  (refl, refl),
+  (refl, refl),
+  (refl, refl),
+  (refl, refl),
+  (refl, refl),
+  (refl, refl),
+  (refl, refl),
+  (refl, refl),
+  (refl, refl),
+  (refl, refl),
+)

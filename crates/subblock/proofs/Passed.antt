@@ -35,7 +35,8 @@ settings-are Y b q = refl
 settings-are U b q = refl
 settings-are «V» b q = refl
 
-module _ (b : List ℤ) (q : Request) (n : ℕ) (z : Sizes (q .side) n) (e : verdict settingsFaults (requested b q) ≡ accepted)
+module _ (b : List ℤ) (q : Request) (n : ℕ) (z : Sizes (q .side) n) (e : verdict settingsFaults (requested b q)
+    ≡ accepted)
     (f : verdict bufferFaults (requested b q) ≡ accepted) where
   abbrev s : SubBlock
   s = requested b q

@@ -1,5 +1,5 @@
--- Three stretches of one room, each replaced in turn by one as long: what the next one still holds, and what the room holds in the end.
--- And the length of what a component leaves.
+-- Three stretches of one room, each replaced in turn by one as long: what the next one still holds, and what the room
+-- holds in the end. And the length of what a component leaves.
 -- Assumes nothing.
 use mathlib.Core.Path.{_≡_, refl, sym, ap, _∙_}
 use mathlib.Core.Bool.{Bool, true, false, cond}
@@ -49,19 +49,22 @@ module _ (l a b : List ℤ) (n m : ℕ) (ka : length a ≡ n) (kb : length b ≡
 
   pub second-holds : midOf n (n + m - n) (putMid 0 (n - 0) l a) ≡ take m (drop n l)
   second-holds =
-      ap (λ (x : List ℤ). midOf n (n + m - n) x) once ∙ ap (λ (k : ℕ). midOf n k (a ++ drop n l)) d₁ ∙ mid-at a (drop n l) n m ka
+      ap (λ (x : List ℤ). midOf n (n + m - n) x) once ∙ ap (λ (k : ℕ). midOf n k (a ++ drop n l)) d₁
+      ∙ mid-at a (drop n l) n m ka
 
   joined-length : length (a ++ b) ≡ n + m
   joined-length = length-append a b ∙ omega arith
 
-  pub third-holds : midOf (n + m) (n + m + m - (n + m)) (putMid n (n + m - n) (putMid 0 (n - 0) l a) b) ≡ take m (drop (n + m) l)
+  pub third-holds : midOf (n + m) (n + m + m - (n + m)) (putMid n (n + m - n) (putMid 0 (n - 0) l a) b)
+      ≡ take m (drop (n + m) l)
   third-holds =
       ap (λ (x : List ℤ). midOf (n + m) (n + m + m - (n + m)) x) twice
       ∙ ap (λ (k : ℕ). midOf (n + m) k ((a ++ b) ++ drop (n + m) l)) d₂
       ∙ mid-at (a ++ b) (drop (n + m) l) (n + m) m joined-length
 
   pub three-put : (c : List ℤ)
-      → putMid (n + m) (n + m + m - (n + m)) (putMid n (n + m - n) (putMid 0 (n - 0) l a) b) c ≡ a ++ (b ++ (c ++ drop (n + m + m) l))
+      → putMid (n + m) (n + m + m - (n + m)) (putMid n (n + m - n) (putMid 0 (n - 0) l a) b) c ≡ a
+      ++ (b ++ (c ++ drop (n + m + m) l))
   three-put c =
       ap (λ (x : List ℤ). putMid (n + m) (n + m + m - (n + m)) x c) twice
       ∙ ap (λ (k : ℕ). putMid (n + m) k ((a ++ b) ++ drop (n + m) l) c) d₂
@@ -77,7 +80,8 @@ module _ (l a b : List ℤ) (n m : ℕ) (ka : length a ≡ n) (kb : length b ≡
       ∙ ap (λ (x : List ℤ). a ++ (b ++ x)) (append-nil c)
 
 -- a list in three parts
-pub in-three : (l : List ℤ) (n m : ℕ) → length l ≡ n + m + m → take n l ++ (take m (drop n l) ++ take m (drop (n + m) l)) ≡ l
+pub in-three : (l : List ℤ) (n m : ℕ) → length l ≡ n + m + m
+    → take n l ++ (take m (drop n l) ++ take m (drop (n + m) l)) ≡ l
 in-three l n m k =
     ap (λ (x : List ℤ). take n l ++ (take m (drop n l) ++ x))
     (take-all m (drop (n + m) l) (simp length-drop (omega arith)) ∙ sym (drop-drop m n l))
@@ -106,15 +110,18 @@ left-length k q r ready = by (bit k (q .run))
     by false = refl
 
 -- ---- the three stretches written from a room
-pub written-back : (room l a b c : List ℤ) (n m : ℕ) → length room ≡ n + m + m → a ≡ midOf 0 (n - 0) room → b ≡ midOf n (n + m - n) room
+pub written-back : (room l a b c : List ℤ) (n m : ℕ) → length room ≡ n + m + m → a ≡ midOf 0 (n - 0) room
+    → b ≡ midOf n (n + m - n) room
     → c ≡ midOf (n + m) (n + m + m - (n + m)) room
-    → putMid (n + m) (n + m + m - (n + m)) (putMid n (n + m - n) (putMid 0 (n - 0) l a) b) c ≡ room ++ drop (n + m + m) l
+    → putMid (n + m) (n + m + m - (n + m)) (putMid n (n + m - n) (putMid 0 (n - 0) l a) b) c ≡ room
+    ++ drop (n + m + m) l
 written-back room l a b c n m k ea eb ec =
     let D = drop (n + m + m) l in
     let a′ = ea ∙ ap (λ (i : ℕ). take i room) (let e : n - 0 ≡ n = omega arith in e) in
     let b′ = eb ∙ ap (λ (i : ℕ). take i (drop n room)) (let e : n + m - n ≡ m = omega arith in e) in
     let c′ = ec ∙ ap (λ (i : ℕ). take i (drop (n + m) room)) (let e : n + m + m - (n + m) ≡ m = omega arith in e) in
-    three-put l a b n m (ap length a′ ∙ simp length-take (omega arith)) (ap length b′ ∙ simp (length-take, length-drop) (omega arith)) c
+    three-put l a b n m (ap length a′ ∙ simp length-take (omega arith)) (ap length b′
+    ∙ simp (length-take, length-drop) (omega arith)) c
     ∙ sym
     (ap (λ (x : List ℤ). x ++ D) (sym (in-three room n m k))
     ∙ append-assoc (take n room) (take m (drop n room) ++ take m (drop (n + m) room)) D

@@ -1,5 +1,5 @@
--- The turns of the three components in one room: what each is given is still its residuals, and what stands in the room when all three
--- were coded. And the answer, from theirs: the first refusal, or what was coded of each.
+-- The turns of the three components in one room: what each is given is still its residuals, and what stands in the room
+-- when all three were coded. And the answer, from theirs: the first refusal, or what was coded of each.
 -- Assumes nothing.
 use mathlib.Core.Path.{_≡_, refl, sym, ap, subst, _∙_}
 use mathlib.Core.List.{List, _++_}
@@ -25,15 +25,18 @@ use Rattle.subblock.proofs.ThreeParts.{second-holds, third-holds, room-
 
 -- ---- the answers
 -- the answer of a component: what was coded, or a refusal
-coded-is : {A : quant.Outcome} (y : QuantAnswer) (p : Coded) → quant.paperOf y ≡ A → y ≡ quantised.Coded p → A ≡ quant.coded (p .count) (p .price)
+coded-is : {A : quant.Outcome} (y : QuantAnswer) (p : Coded) → quant.paperOf y ≡ A → y ≡ quantised.Coded p
+    → A ≡ quant.coded (p .count) (p .price)
 coded-is y p e g = sym e ∙ ap quant.paperOf g
 
-refused-is : {A : quant.Outcome} (y : QuantAnswer) (w : Refusal) (k : Component) → quant.paperOf y ≡ A → y ≡ quantised.Refused w k
+refused-is : {A : quant.Outcome} (y : QuantAnswer) (w : Refusal) (k : Component) → quant.paperOf y ≡ A
+    → y ≡ quantised.Refused w k
     → A ≡ quant.refusedWith (numberOf w) (componentOf k)
 refused-is y w k e g = sym e ∙ ap quant.paperOf g
 
 -- what the call makes of a refusal
-handed-on : (r : SubBlockAnswer) (y : QuantAnswer) (w : Refusal) (k : Component) → r ≡ refusalOf y → y ≡ quantised.Refused w k
+handed-on : (r : SubBlockAnswer) (y : QuantAnswer) (w : Refusal) (k : Component) → r ≡ refusalOf y
+    → y ≡ quantised.Refused w k
     → three.paperOf r ≡ three.refusedWith (numberOf w) (componentOf k)
 handed-on r y w k e g = ap three.paperOf (e ∙ ap refusalOf g)
 
@@ -52,7 +55,8 @@ module _ (q : Request) (n : ℕ) (l after : List ℤ) (r : SubBlockAnswer) (y : 
   abbrev V-is : QuantAnswer → Type 0
   V-is v = quant.paperOf v ≡ partAnswer «V» q (residuals «V» n l)
 
-  pub y-refused : (w : Refusal) (k : Component) → Y-is y → y ≡ quantised.Refused w k → r ≡ refusalOf y → Parted q n l after r
+  pub y-refused : (w : Refusal) (k : Component) → Y-is y → y ≡ quantised.Refused w k → r ≡ refusalOf y
+      → Parted q n l after r
   y-refused w k e g er =
       let h = handed-on r y w k er g in
       record {
@@ -69,7 +73,8 @@ module _ (q : Request) (n : ℕ) (l after : List ℤ) (r : SubBlockAnswer) (y : 
         left = λ a b c f. absurd (no-share r (numberOf w) (componentOf k) h a b c f);
       }
 
-  pub v-refused : (p o : Coded) (u v : QuantAnswer) (w : Refusal) (k : Component) → Y-is y → y ≡ quantised.Coded p → U-is u
+  pub v-refused : (p o : Coded) (u v : QuantAnswer) (w : Refusal) (k : Component) → Y-is y → y ≡ quantised.Coded p
+      → U-is u
       → u ≡ quantised.Coded o → V-is v → v ≡ quantised.Refused w k → r ≡ refusalOf v → Parted q n l after r
   v-refused p o u v w k ey gy eu gu ev gv er =
       let h = handed-on r v w k er gv in
@@ -78,7 +83,8 @@ module _ (q : Request) (n : ℕ) (l after : List ℤ) (r : SubBlockAnswer) (y : 
         left = λ a b c f. absurd (no-share r (numberOf w) (componentOf k) h a b c f);
       }
 
-  pub all-coded : (p o s : Coded) (u v : QuantAnswer) → Y-is y → y ≡ quantised.Coded p → U-is u → u ≡ quantised.Coded o → V-is v
+  pub all-coded : (p o s : Coded) (u v : QuantAnswer) → Y-is y → y ≡ quantised.Coded p → U-is u → u ≡ quantised.Coded o
+      → V-is v
       → v ≡ quantised.Coded s → r ≡ answers.Coded p o s
       → after ≡ partLeft Y q (residuals Y n l) ++ (partLeft U q (residuals U n l) ++ partLeft «V» q (residuals «V» n l))
       → Parted q n l after r
@@ -135,4 +141,5 @@ module _ (q : Request) (n : ℕ) (l : List ℤ) (ready : AllReady q n l) where
           room-holds l a b n (n / 4) a-long b-long c (ready .long)
           ∙ ap (λ (x : List ℤ). x ++ (b ++ c)) a-is
           ∙ ap (λ (x : List ℤ). partLeft Y q (take n l) ++ (x ++ c)) b-is
-          ∙ ap (λ (x : List ℤ). partLeft Y q (take n l) ++ (partLeft U q (take (n / 4) (drop n l)) ++ x)) (ec ∙ ap (partLeft «V» q) third-is)
+          ∙ ap (λ (x : List ℤ). partLeft Y q (take n l) ++ (partLeft U q (take (n / 4) (drop n l)) ++ x)) (ec
+          ∙ ap (partLeft «V» q) third-is)

@@ -1,5 +1,5 @@
--- The three-component call from its components: what the definition answers and leaves is what the three, coded in turn, answer and
--- leave.
+-- The three-component call from its components: what the definition answers and leaves is what the three, coded in
+-- turn, answer and leave.
 -- Assumes nothing.
 use mathlib.Core.Path.{_≡_, refl, sym, ap, _∙_}
 use mathlib.Core.Bool.{Bool, true, false, cond}
@@ -16,7 +16,9 @@ use Rattle.transform.proofs.Bounds.{coefficients-long, none-is-least}
 use Rattle.quantise.specs.Block.{Quant, coding, area, countOf, priceOf, quantised}
 use Rattle.quantise.specs.Call as quant
 use Rattle.subblock.specs.declared.Request.{Request}
-use Rattle.subblock.specs.Call.{SubBlock, requested, bit, runs, stretch, start, transOf, quantOf, count, price, Share, share, Outcome, coded, outcome, levels, codedBuffer, subBlockVerdict, subBlockAnswer, subBlockBuffer}
+use Rattle.subblock.specs.Call.{SubBlock, requested, bit, runs, stretch, start, transOf, quantOf, count, price}
+use Rattle.subblock.specs.Call.{Share, share, Outcome, coded, outcome, levels, codedBuffer, subBlockVerdict}
+use Rattle.subblock.specs.Call.{subBlockAnswer, subBlockBuffer}
 use Rattle.subblock.specs.Call as three
 use Rattle.subblock.specs.Tested.{settingsFaults, bufferFaults, lateFaults, Sizes}
 use Rattle.subblock.specs.Parts.{sideIn, quantIn, Ready, partAnswer, partLeft, joined}
@@ -33,7 +35,8 @@ alone-is-late k q r ready run =
     let l = sideIn k q in
     let i = side-inside k (q .side) (ready .low) (ready .high) in
     let s = side-high k (q .side) (ready .high) in
-    alone-late (quantIn k q r) i i (ready .qp run) (ready .lambda run) (ready .costs) (omega (arith, coefficients-long r l l))
+    alone-late (quantIn k q r) i i (ready .qp run) (ready .lambda run) (ready .costs)
+    (omega (arith, coefficients-long r l l))
     (none-is-least l l s s r (ready .long) (ready .tame run))
 
 pub answer-alone : (c : Quant) → quant.quantAnswer c ≡ quant.outcome (quant.quantVerdict c) (countOf c) (priceOf c)
@@ -57,7 +60,8 @@ coded-accepted s x y z e = by (subBlockVerdict s) (share Y s) (share U s) (share
     by (refused m k) a b c f = absurd (let w : _≡_ {A = ℕ} 0 1 = cc in let no : ⊥ = omega arith in no)
 
 pub buffer-whole : (s : SubBlock) → subBlockVerdict s ≡ accepted
-    → subBlockBuffer s ≡ levels Y s ++ (levels U s ++ (levels «V» s ++ drop (start «V» s + three.area «V» s) (s .buffer)))
+    → subBlockBuffer s ≡ levels Y s
+    ++ (levels U s ++ (levels «V» s ++ drop (start «V» s + three.area «V» s) (s .buffer)))
 unfolding subBlockBuffer codedBuffer
 buffer-whole s e = rw e
 
@@ -69,7 +73,8 @@ refused-leaves s m c v = rw v
 -- three outcomes as one
 joined-outcomes : (x y z : Verdict) (a b c d e f : ℕ)
     → joined (quant.outcome x a b) (quant.outcome y c d) (quant.outcome z e f)
-    ≡ outcome (orElse x (orElse y z)) (record { count = a; price = b }) (record { count = c; price = d }) (record { count = e; price = f })
+    ≡ outcome (orElse x (orElse y z)) (record { count = a; price = b }) (record { count = c; price = d })
+    (record { count = e; price = f })
 joined-outcomes (refused m k) y z a b c d e f = refl
 joined-outcomes accepted (refused m k) z a b c d e f = refl
 joined-outcomes accepted accepted (refused m k) a b c d e f = refl
@@ -92,21 +97,25 @@ module _ (b : List ℤ) (q : Request) where
     where
       by : (t : Bool) → bit k (q .run) ≡ t
           → cond t (quant.quantAnswer (quantIn k q (stretch k s))) (quant.coded 0 0)
-          ≡ quant.outcome (cond t (verdict lateFaults (quantOf k s)) accepted) (cond t (countOf (quantOf k s)) 0) (cond t (priceOf (quantOf k s)) 0)
+          ≡ quant.outcome (cond t (verdict lateFaults (quantOf k s)) accepted) (cond t (countOf (quantOf k s)) 0)
+          (cond t (priceOf (quantOf k s)) 0)
       by true run =
           answer-alone (quantIn k q (stretch k s))
-          ∙ ap (λ (v : Verdict). quant.outcome v (countOf (quantIn k q (stretch k s))) (priceOf (quantIn k q (stretch k s))))
+          ∙ ap (λ (v : Verdict). quant.outcome v (countOf (quantIn k q (stretch k s)))
+          (priceOf (quantIn k q (stretch k s))))
           (alone-is-late k q (stretch k s) ready run)
           ∙ ap (λ (c : Quant). quant.outcome (verdict lateFaults c) (countOf c) (priceOf c)) (quant-is k)
       by false run = refl
 
   -- what a component leaves whose coefficients show no fault
-  part-left : (k : Component) → Ready k q (stretch k s) → lateOf k s ≡ accepted → partLeft k q (stretch k s) ≡ levels k s
+  part-left : (k : Component) → Ready k q (stretch k s) → lateOf k s ≡ accepted
+      → partLeft k q (stretch k s) ≡ levels k s
   unfolding partLeft levels runs requested
   part-left k ready late = by (bit k (q .run)) refl late
     where
       by : (t : Bool) → bit k (q .run) ≡ t → cond t (verdict lateFaults (quantOf k s)) accepted ≡ accepted
-          → cond t (quant.quantBuffer (quantIn k q (stretch k s))) (stretch k s) ≡ cond t (quantised (quantOf k s)) (stretch k s)
+          → cond t (quant.quantBuffer (quantIn k q (stretch k s))) (stretch k s)
+          ≡ cond t (quantised (quantOf k s)) (stretch k s)
       by true run e =
           buffer-alone (quantIn k q (stretch k s))
           (alone-is-late k q (stretch k s) ready run
@@ -128,13 +137,16 @@ module _ (b : List ℤ) (q : Request) where
         ∙ ap (λ (v : Verdict). orElse v late) f
 
     pub answer-is :
-        joined (partAnswer Y q (stretch Y s)) (partAnswer U q (stretch U s)) (partAnswer «V» q (stretch «V» s)) ≡ subBlockAnswer s
+        joined (partAnswer Y q (stretch Y s)) (partAnswer U q (stretch U s)) (partAnswer «V» q (stretch «V» s))
+        ≡ subBlockAnswer s
     unfolding share
     answer-is =
-        ap (λ (o : quant.Outcome). joined o (partAnswer U q (stretch U s)) (partAnswer «V» q (stretch «V» s))) (part-answer Y (ready Y))
+        ap (λ (o : quant.Outcome). joined o (partAnswer U q (stretch U s)) (partAnswer «V» q (stretch «V» s)))
+        (part-answer Y (ready Y))
         ∙ ap (λ (o : quant.Outcome). joined (of Y) o (partAnswer «V» q (stretch «V» s))) (part-answer U (ready U))
         ∙ ap (λ (o : quant.Outcome). joined (of Y) (of U) o) (part-answer «V» (ready «V»))
-        ∙ joined-outcomes (lateOf Y s) (lateOf U s) (lateOf «V» s) (count Y s) (price Y s) (count U s) (price U s) (count «V» s) (price «V» s)
+        ∙ joined-outcomes (lateOf Y s) (lateOf U s) (lateOf «V» s) (count Y s) (price Y s) (count U s) (price U s)
+        (count «V» s) (price «V» s)
         ∙ ap (λ (v : Verdict). outcome v (share Y s) (share U s) (share «V» s)) (sym verdict-late)
         ∙ sym (answer-whole s)
       where
@@ -143,7 +155,8 @@ module _ (b : List ℤ) (q : Request) where
 
     three-end : n + n / 4 + n / 4 ≡ start «V» s + three.area «V» s
     unfolding start three.area requested
-    three-end = ap (λ (k : ℕ). k + n / 4 + n / 4) (z .luma) ∙ ap (λ (k : ℕ). 2 ^ (q .side) * 2 ^ (q .side) + k + k) (z .chroma)
+    three-end = ap (λ (k : ℕ). k + n / 4 + n / 4) (z .luma)
+        ∙ ap (λ (k : ℕ). 2 ^ (q .side) * 2 ^ (q .side) + k + k) (z .chroma)
 
     -- accepted: the three stretches and the surplus
     pub coded-leaves : subBlockVerdict s ≡ accepted → (after : List ℤ)

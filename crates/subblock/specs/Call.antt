@@ -1,5 +1,5 @@
--- `sub_block_tq`: its faults in order, its answer, and what its buffer then holds, as functions of all its inputs. Each component is
--- a stretch of the one buffer; what is done to it is what the transform and the quantiser alone do.
+-- `sub_block_tq`: its faults in order, its answer, and what its buffer then holds, as functions of all its inputs. Each
+-- component is a stretch of the one buffer; what is done to it is what the transform and the quantiser alone do.
 use mathlib.Core.Bool.{Bool, _&&_, _||_, cond}
 use mathlib.Core.List.{List, [], _∷_, _++_}
 use Prim.Native.Nat.{ℕ, _+_, _-_, _*_, _/_, _%_, _^_}
@@ -25,7 +25,8 @@ use Rattle.subblock.specs.declared.Request.{Request}
 use Rattle.subblock.specs.declared.SubBlockAnswer.{SubBlockAnswer}
 use Rattle.subblock.specs.declared.SubBlockAnswer.the-variants.{Coded, Refused}
 
--- the inputs: the mode, the buffer, luma's log2 sides, each component's settings, the run mask, and what all three share
+-- the inputs: the mode, the buffer, luma's log2 sides, each component's settings, the run mask, and what all three
+-- share
 pub record SubBlock : Type 0 where
   pub mode : Mode
   pub buffer : List ℤ
@@ -108,7 +109,8 @@ unfoldable pub quantOf : Component → SubBlock → Quant
 unfolding transOf coefficients coding
 quantOf k s =
     let t = transOf k s in
-    coding (s .mode) (coefficients (t .buffer) (t .lw) (t .lh)) (t .lw) (t .lh) k (settingsOf k s) (s .intraSlice) (s .intraCoded) (s .costs)
+    coding (s .mode) (coefficients (t .buffer) (t .lw) (t .lh)) (t .lw) (t .lh) k (settingsOf k s) (s .intraSlice)
+    (s .intraCoded) (s .costs)
 
 -- ---- the faults
 unfoldable pub sideFault : Fault SubBlock
@@ -134,7 +136,8 @@ unfolding runs quantOf
 inQuant k f = record { refusal = f .refusal; component = λ s. k; holds = λ s. runs k s && f .holds (quantOf k s) }
 
 unfoldable pub subBlockFaults : List (Fault SubBlock)
-unfolding sideFault costFault lengthFault inTrans inQuant trans.sampleFault quant.qpFault quant.lambdaFault quant.levelFault quant.priceFault quant.distortionFault
+unfolding sideFault costFault lengthFault inTrans inQuant trans.sampleFault quant.qpFault quant.lambdaFault
+    quant.levelFault quant.priceFault quant.distortionFault
 subBlockFaults =
     sideFault
     ∷ inQuant Y quant.qpFault

@@ -1,4 +1,5 @@
--- One component by itself, over its residuals as a list: what the code of a component must be given, and what it answers and leaves.
+-- One component by itself, over its residuals as a list: what the code of a component must be given, and what it
+-- answers and leaves.
 use mathlib.Core.Path.{_≡_}
 use mathlib.Core.Bool.{true, false, cond}
 use mathlib.Core.List.{List, _++_}
@@ -32,7 +33,8 @@ sideIn k q = sideOf k (q .side)
 unfoldable pub quantIn : Component → Request → List ℤ → Quant
 unfolding coefficients coding
 quantIn k q r =
-    coding (q .mode) (coefficients r (sideIn k q) (sideIn k q)) (sideIn k q) (sideIn k q) k (setOf k q) (q .slice) (q .coded) (q .costs)
+    coding (q .mode) (coefficients r (sideIn k q) (sideIn k q)) (sideIn k q) (sideIn k q) k (setOf k q) (q .slice)
+    (q .coded) (q .costs)
 
 -- the tests before it have passed
 pub record Ready (k : Component) (q : Request) (r : List ℤ) : Type 0 where
@@ -78,9 +80,11 @@ joined (coded a b) (coded d e) (coded f g) =
 pub record Parted (q : Request) (n : ℕ) (before after : List ℤ) (r : SubBlockAnswer) : Type 0 where
   pub answer :
       three.paperOf r
-      ≡ joined (partAnswer Y q (residuals Y n before)) (partAnswer U q (residuals U n before)) (partAnswer «V» q (residuals «V» n before))
+      ≡ joined (partAnswer Y q (residuals Y n before)) (partAnswer U q (residuals U n before))
+      (partAnswer «V» q (residuals «V» n before))
   pub left : (y u v : three.Share) → three.paperOf r ≡ three.coded y u v
-      → after ≡ partLeft Y q (residuals Y n before) ++ (partLeft U q (residuals U n before) ++ partLeft «V» q (residuals «V» n before))
+      → after ≡ partLeft Y q (residuals Y n before)
+      ++ (partLeft U q (residuals U n before) ++ partLeft «V» q (residuals «V» n before))
 
 -- what a refused component makes of the whole call
 abbrev pub refusalOf : QuantAnswer → SubBlockAnswer

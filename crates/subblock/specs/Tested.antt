@@ -1,5 +1,5 @@
--- The faults of the three-component call in the groups in which the code tests them: sides and settings; costs, length and residuals;
--- and, of each component, what only its coefficients show.
+-- The faults of the three-component call in the groups in which the code tests them: sides and settings; costs, length
+-- and residuals; and, of each component, what only its coefficients show.
 use mathlib.Core.Path.{_≡_}
 use mathlib.Core.List.{List, [], _∷_}
 use Prim.Native.Nat.{ℕ, _+_, _-_, _*_, _/_, _^_, _≤_}

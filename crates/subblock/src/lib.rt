@@ -1,5 +1,5 @@
-// Transform and quantiser over the three components of a block, which stand in one lent buffer: Y, then U, then V. Nothing is
-// written until every test of every component has passed.
+// Transform and quantiser over the three components of a block, which stand in one lent buffer: Y, then U, then V.
+// Nothing is written until every test of every component has passed.
 use crate::component::code_parts;
 use crate::faults::Tested;
 use crate::faults::luma_places;
@@ -21,8 +21,8 @@ ghost use Rattle.subblock.specs.Call.{requested, paperOf, subBlockAnswer
 mod component;
 mod faults;
 
-// All inputs of a call but its buffer: log2 of luma's side, each component's settings, the run mask, whether the slice is intra,
-// whether the block is intra-coded, the cost tables, and which blocks are written.
+// All inputs of a call but its buffer: log2 of luma's side, each component's settings, the run mask, whether the slice
+// is intra, whether the block is intra-coded, the cost tables, and which blocks are written.
 pub struct Request {
     pub side: usize,
     pub y: Settings,

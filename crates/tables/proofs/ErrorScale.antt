@@ -1,5 +1,5 @@
--- The error scales by side and remainder, as a list of 30; and what an error scale is good for: q·E is at most 2^(28+l), so that
--- a product with it stays within 64 bits.
+-- The error scales by side and remainder, as a list of 30; and what an error scale is good for: q·E is at most
+-- 2^(28+l), so that a product with it stays within 64 bits.
 -- Assumes nothing.
 use mathlib.Core.Path.{_≡_, _∙_, ap}
 use mathlib.Core.List.{List}
@@ -20,7 +20,8 @@ unfoldable pub errorScales : List ℕ
 unfolding entryOf errorScale forward listed
 errorScales = listed entryOf 0 30
 
-pub error-scale-at : (l qp : ℕ) → 1 ≤ l → l ≤ 5 → getD errorScales ((l - 1) * 6 + qp % 6) 0 ≡ errorScale l (scaleOf forward qp)
+pub error-scale-at : (l qp : ℕ) → 1 ≤ l → l ≤ 5 → getD errorScales ((l - 1) * 6 + qp % 6) 0
+    ≡ errorScale l (scaleOf forward qp)
 unfolding errorScales entryOf scaleOf
 error-scale-at l qp lo hi =
     let i = (l - 1) * 6 + qp % 6 in

@@ -1,12 +1,14 @@
--- The scan meets each place of the block: a block place lies inside the block, no two scan places have one block place, and
--- there are as many of the one as of the other. The first two hold for every width and height; the count is computed.
+-- The scan meets each place of the block: a block place lies inside the block, no two scan places have one block place,
+-- and there are as many of the one as of the other. The first two hold for every width and height; the count is
+-- computed.
 -- Assumes nothing.
 use mathlib.Core.Path.{_≡_, refl, sym, ap, subst, _∙_}
 use mathlib.Core.Logic.{⊎-elim}
 use mathlib.Core.Bool.{Bool, true, false, cond}
 use mathlib.Core.List.{List, _++_}
 use Prim.Native.Nat.{ℕ, zero, suc, _+_, _-_, _*_, _/_, _%_, _≤_, _<_, _^_}
-use native.Mathlib.Nat.{not-suc-le-zero, mul-add-mod-self-right, mul-add-div-right, mod-eq-of-lt, div-eq-of-lt, mul-le-mul-right, suc-mul, mul-comm}
+use native.Mathlib.Nat.{not-suc-le-zero, mul-add-mod-self-right, mul-add-div-right, mod-eq-of-lt, div-eq-of-lt}
+use native.Mathlib.Nat.{mul-le-mul-right, suc-mul, mul-comm}
 use native.Mathlib.Omega.{arith}
 use lib.Dec.{eqb, eqb→eq}
 use lib.ListN.{length, getD, length-append, List·getD-append}
@@ -14,7 +16,8 @@ use lib.Seq.{getD-append-add}
 use Rattle.integers.specs.Tests.{all}
 use Rattle.integers.proofs.Order.{below-or-not}
 use Rattle.integers.proofs.Tests.{all-at, listed-at, listed-length}
-use Rattle.tables.specs.Scan.{low, high, count, upwards, column, onDiagonal, diagonal, diagonals, scan, scanAt, square}
+use Rattle.tables.specs.Scan.{low, high, count, upwards, column, onDiagonal, diagonal, diagonals, scan, scanAt}
+use Rattle.tables.specs.Scan.{square}
 
 -- the i-th of the numbers from lo to hi, upwards or downwards, stands i after the first
 back : (up : Bool) (lo hi i : ℕ) → i < hi + 1 - lo
@@ -74,7 +77,8 @@ module _ (w h : ℕ) where
 
   on-scan : (p : ℕ) → p < length (scan w h) → On (scanAt w h p) p
   unfolding scan scanAt before
-  on-scan p q = subst (λ (k : ℕ). On (scanAt w h p) k) (let e : 0 + p ≡ p = omega arith in e) (on-diagonals 0 (w + h - 1) p q)
+  on-scan p q =
+      subst (λ (k : ℕ). On (scanAt w h p) k) (let e : 0 + p ≡ p = omega arith in e) (on-diagonals 0 (w + h - 1) p q)
 
   -- ---- a block place, taken apart
   -- the columns that a diagonal meets
@@ -145,4 +149,5 @@ scan-length a b ha hb =
 
 pub square-length : (l : ℕ) → l ≤ 5 → length (square l) ≡ 4 ^ l
 unfolding square all
-square-length l h = eqb→eq (length (square l)) (4 ^ l) (all-at 6 (λ l. eqb (length (square l)) (4 ^ l)) tt l (omega arith))
+square-length l h =
+    eqb→eq (length (square l)) (4 ^ l) (all-at 6 (λ l. eqb (length (square l)) (4 ^ l)) tt l (omega arith))

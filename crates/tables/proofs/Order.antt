@@ -1,5 +1,6 @@
--- What is added up along the scan does not depend on its order: the scan meets each place of the block, and each once. Whatever the
--- addition is, a sum over the block in scan order is the sum over the block by rows; largest numbers and tests are such sums.
+-- What is added up along the scan does not depend on its order: the scan meets each place of the block, and each once.
+-- Whatever the addition is, a sum over the block in scan order is the sum over the block by rows; largest numbers and
+-- tests are such sums.
 -- Assumes nothing.
 use mathlib.Core.Path.{_≡_, sym, ap, _∙_}
 use mathlib.Core.List.{List, map}
@@ -25,7 +26,8 @@ module _ (w h : ℕ) (hw : 1 ≤ w) (hh : 1 ≤ h) (full : length (scan w h) ≡
   pub scan-hit : (b : ℕ) → b < w * h → (k : ℕ) × (k < w * h) × (scanAt w h k ≡ b)
   scan-hit = hit (w * h) (scanAt w h) inside apart
 
-  pub scan-over : {A B : Type 0} {o : Addition B} (l : Lawful o) (f : A → B) (block : List A) (d : A) → w * h ≤ length block
+  pub scan-over : {A B : Type 0} {o : Addition B} (l : Lawful o) (f : A → B) (block : List A) (d : A)
+      → w * h ≤ length block
       → over o f (map (λ p. getD block p d) (scan w h)) ≡ over o f (take (w * h) block)
   unfolding scanAt
   scan-over {o = o} l f block d room =

@@ -25,7 +25,8 @@ module _ {A : Type 0} (d : A) (f : ℕ → List A) where
   offset l zero = 0
   offset l (suc k) = length (f l) + offset (suc l) k
 
-  parts-at : (l n k p : ℕ) → k < n → p < length (f (l + k)) → getD (parts f l n) (offset l k + p) d ≡ getD (f (l + k)) p d
+  parts-at : (l n k p : ℕ) → k < n → p < length (f (l + k)) → getD (parts f l n) (offset l k + p) d
+      ≡ getD (f (l + k)) p d
   unfolding parts offset
   parts-at l zero k p h q = absurd (not-suc-le-zero h)
   parts-at l (suc n) zero p h q =
@@ -47,7 +48,8 @@ module _ {A : Type 0} (d : A) (f : ℕ → List A) where
     start-is zero h = refl
     start-is (suc zero) h = omega (arith, sized 1 (omega arith))
     start-is (suc (suc zero)) h = omega (arith, sized 1 (omega arith), sized 2 (omega arith))
-    start-is (suc (suc (suc zero))) h = omega (arith, sized 1 (omega arith), sized 2 (omega arith), sized 3 (omega arith))
+    start-is (suc (suc (suc zero))) h =
+        omega (arith, sized 1 (omega arith), sized 2 (omega arith), sized 3 (omega arith))
     start-is (suc (suc (suc (suc zero)))) h =
         omega (arith, sized 1 (omega arith), sized 2 (omega arith), sized 3 (omega arith), sized 4 (omega arith))
     start-is (suc (suc (suc (suc (suc k))))) h = absurd (omega arith)

@@ -1,5 +1,5 @@
--- What a butterfly needs of the matrices: an even row reads the same from both ends, an odd one with its sign changed, and the even
--- rows of side 2h begin with the rows of side h. Each by one computed test over the sides.
+-- What a butterfly needs of the matrices: an even row reads the same from both ends, an odd one with its sign changed,
+-- and the even rows of side 2h begin with the rows of side h. Each by one computed test over the sides.
 -- Assumes nothing.
 use mathlib.Core.Path.{_≡_}
 use mathlib.Core.Bool.{Bool}

@@ -1,5 +1,6 @@
--- T_N, the matrix of the N-point transform, by the rule of 31 numbers. The rule is over the largest side B and the numbers c(a),
--- so that another side with other numbers is one more instance; document 01 has B = 32 and c from column 0 of T_32.
+-- T_N, the matrix of the N-point transform, by the rule of 31 numbers. The rule is over the largest side B and the
+-- numbers c(a), so that another side with other numbers is one more instance; document 01 has B = 32 and c from column
+-- 0 of T_32.
 use mathlib.Core.Bool.{cond}
 use mathlib.Core.List.{List, [], _∷_}
 use Prim.Native.Nat.{ℕ, zero, suc, _+_, _*_, _-_, _/_, _%_, _^_}

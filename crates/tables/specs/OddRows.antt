@@ -1,5 +1,5 @@
--- The odd rows of the matrix of side 2h as the butterflies read them: their first halves by columns, so that entry n·h + k is
--- T_2h[2k + 1][n].
+-- The odd rows of the matrix of side 2h as the butterflies read them: their first halves by columns, so that entry n·h
+-- + k is T_2h[2k + 1][n].
 use mathlib.Core.List.{List}
 use Prim.Native.Nat.{ℕ, _+_, _*_, _/_, _%_}
 use lib.IntN.{ℤ}

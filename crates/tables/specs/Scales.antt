@@ -1,5 +1,5 @@
--- The scales q by QP mod 6, and the error scale E of a side and a scale. A row of scales is an argument, so that a second row is
--- one more list.
+-- The scales q by QP mod 6, and the error scale E of a side and a scale. A row of scales is an argument, so that a
+-- second row is one more list.
 use mathlib.Core.List.{List, [], _∷_}
 use Prim.Native.Nat.{ℕ, _+_, _/_, _%_, _^_}
 use lib.ListN.{getD}

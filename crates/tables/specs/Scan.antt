@@ -1,5 +1,5 @@
--- The scan of a block w wide and h high: the diagonals x + y = 0, 1, 2, ..; odd ones run from large x to small, even ones from
--- small x to large. A block place is y·w + x.
+-- The scan of a block w wide and h high: the diagonals x + y = 0, 1, 2, ..; odd ones run from large x to small, even
+-- ones from small x to large. A block place is y·w + x.
 use mathlib.Core.Bool.{Bool, cond}
 use mathlib.Core.List.{List, [], _++_}
 use Prim.Native.Nat.{ℕ, zero, suc, _+_, _-_, _*_, _%_, _^_, min}

@@ -1,5 +1,6 @@
-// The tables: the matrices of the transform, the scan, the scales of the quantiser. Each is listed as data, and each contract
-// speaks of the rule that the data follow, never of the data: one computed test for each table stands between the two.
+// The tables: the matrices of the transform, the scan, the scales of the quantiser. Each is listed as data, and each
+// contract speaks of the rule that the data follow, never of the data: one computed test for each table stands between
+// the two.
 ghost use mathlib.Core.Path.{_≡_};
 ghost use Prim.Native.Nat.{_≤_};
 ghost use Rattle.tables.specs.Sides.{startOf};

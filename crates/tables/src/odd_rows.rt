@@ -1,5 +1,5 @@
-// The odd rows of the matrices, as the butterflies read them: of side 2h the first halves, column after column, so that one value meets
-// the h entries of its column in a row. Taken once a call.
+// The odd rows of the matrices, as the butterflies read them: of side 2h the first halves, column after column, so that
+// one value meets the h entries of its column in a row. Taken once a call.
 use crate::matrices::ODD_2;
 use crate::matrices::ODD_4;
 use crate::matrices::ODD_8;

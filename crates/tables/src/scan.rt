@@ -6,8 +6,8 @@ ghost use lib.ListN.{length, getD, set};
 ghost use lib.IntN.{pos};
 ghost use Rattle.tables.specs.Scan.{mostPlaces, scan, scanAt, square};
 
-// A place in scan order, and a place in the block by rows. What they hold is reached in this file alone, so that only the lookup
-// turns the first into the second, and none can be taken for the other.
+// A place in scan order, and a place in the block by rows. What they hold is reached in this file alone, so that only
+// the lookup turns the first into the second, and none can be taken for the other.
 pub struct ScanPlace(usize);
 
 pub struct BlockPlace(usize);
@@ -24,7 +24,8 @@ fn copy(from: &[u16], to: &mut [u16])
     }
 }
 
-// The scan of a square block of side 2^log2, for the lookup: taken once a call. A call writes out the list of its side alone.
+// The scan of a square block of side 2^log2, for the lookup: taken once a call. A call writes out the list of its side
+// alone.
 pub fn fill_scan(log2: usize, held: &mut [u16])
     requires { ⌜ (1 ≤ log2) × (log2 ≤ 5) × (length (now held) ≡ 4 ^ log2) ⌝ }
     ensures { λ _. ⌜ now (held .exit) ≡ square log2 ⌝ }

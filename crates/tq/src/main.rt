@@ -1,5 +1,5 @@
-// Answers requests: for each line of standard input a line of standard output, `malformed` where it is longer than 65,535 bytes.
-// It ends where the input ends.
+// Answers requests: for each line of standard input a line of standard output, `malformed` where it is longer than
+// 65,535 bytes. It ends where the input ends.
 use libc::STDOUT_FILENO;
 use lines::Line;
 

@@ -1,5 +1,5 @@
--- How large a coefficient of accepted residuals can be, of the list that the call leaves: so none is -32768, and the quantiser's test
--- for it cannot fail on what the transform made.
+-- How large a coefficient of accepted residuals can be, of the list that the call leaves: so none is -32768, and the
+-- quantiser's test for it cannot fail on what the transform made.
 -- Assumes nothing.
 use mathlib.Core.Path.{_≡_, refl, sym, ap, subst, _∙_}
 use mathlib.Core.Bool.{false}
@@ -30,7 +30,8 @@ not-least : (z : ℤ) → natAbs z ≤ 32736 → eqℤ z (negsuc 32767) ≡ fals
 not-least (pos a) h = refl
 not-least (negsuc a) h = ne-eqb a 32767 (λ e. let no : ⊥ = omega arith in no)
 
-module _ (lw lh : ℕ) (hw : lw ≤ 5) (hh : lh ≤ 5) (r : List ℤ) (lr : length r ≡ 2 ^ lw * 2 ^ lh) (tame : some wild r ≡ false) where
+module _ (lw lh : ℕ) (hw : lw ≤ 5) (hh : lh ≤ 5) (r : List ℤ) (lr : length r ≡ 2 ^ lw * 2 ^ lh) (tame : some wild r
+    ≡ false) where
   pub coefficients-small : (k : ℕ) → k < 2 ^ lw * 2 ^ lh → natAbs (getD (coefficients r lw lh) k (pos 0)) ≤ 32736
   unfolding coefficients
   coefficients-small k h =
@@ -43,6 +44,8 @@ module _ (lw lh : ℕ) (hw : lw ≤ 5) (hh : lh ≤ 5) (r : List ℤ) (lr : leng
 
   pub none-is-least : some (λ z. eqℤ z (negsuc 32767)) (take (2 ^ lw * 2 ^ lh) (coefficients r lw lh)) ≡ false
   none-is-least =
-      ap (λ (l : List ℤ). some (λ z. eqℤ z (negsuc 32767)) l) (take-all (2 ^ lw * 2 ^ lh) (coefficients r lw lh) (omega (arith, coefficients-long r lw lh)))
+      ap (λ (l : List ℤ). some (λ z. eqℤ z (negsuc 32767)) l)
+      (take-all (2 ^ lw * 2 ^ lh) (coefficients r lw lh) (omega (arith, coefficients-long r lw lh)))
       ∙ passed-by-none (pos 0) (λ z. eqℤ z (negsuc 32767)) (coefficients r lw lh)
-      (λ k h. not-least (getD (coefficients r lw lh) k (pos 0)) (coefficients-small k (omega (arith, coefficients-long r lw lh))))
+      (λ k h. not-least (getD (coefficients r lw lh) k (pos 0))
+      (coefficients-small k (omega (arith, coefficients-long r lw lh))))

@@ -1,5 +1,5 @@
--- Stores down a column of a grid, and lines that go down their columns one by one. The part of a list of lines that is handed on is
--- line j, and it has the room that the list has.
+-- Stores down a column of a grid, and lines that go down their columns one by one. The part of a list of lines that is
+-- handed on is line j, and it has the room that the list has.
 -- Assumes nothing.
 use mathlib.Core.Path.{_≡_, refl, sym, _∙_, ap, subst}
 use mathlib.Core.Logic.{_≢_}
@@ -26,7 +26,8 @@ placed-more w c k f old mid v hc hk e p =
     record {
       holds =
           below-more (λ (i : ℕ). at (set mid (k * w + c) v) (i * w + c) ≡ f i) k
-          (λ i h. getD-set-other mid (k * w + c) (i * w + c) v (pos 0) (rows-apart w i c hc k (apart i h)) ∙ p .holds i h)
+          (λ i h. getD-set-other mid (k * w + c) (i * w + c) v (pos 0) (rows-apart w i c hc k (apart i h))
+          ∙ p .holds i h)
           (getD-set-same mid (k * w + c) v (pos 0) hk ∙ e);
       kept = λ i d hd n.
           getD-set-other mid (k * w + c) (i * w + d) v (pos 0) (columns-apart w i d hd k c hc n) ∙ p .kept i d hd n;
@@ -44,7 +45,8 @@ module _ (N : ℕ) (src : List ℤ) (j : ℕ) where
   line = take (j * N + N - j * N) (drop (j * N) src)
 
   line-at : (n : ℕ) → n < N → at line n ≡ at src (j * N + n)
-  line-at n h = getD-take (j * N + N - j * N) (drop (j * N) src) n (pos 0) (omega arith) ∙ getD-drop (j * N) src n (pos 0)
+  line-at n h =
+      getD-take (j * N + N - j * N) (drop (j * N) src) n (pos 0) (omega arith) ∙ getD-drop (j * N) src n (pos 0)
 
   pub line-is : (k : ℕ) → lineAt N line k ≡ stageAt N src j k
   unfolding lineAt stageAt
@@ -56,7 +58,8 @@ module _ (N : ℕ) (src : List ℤ) (j : ℕ) where
     pub line-length : length line ≡ N
     line-length = simp (length-take, length-drop) (omega arith)
 
-    pub line-within : (b : ℕ) → ((i : ℕ) → i < length src → natAbs (at src i) ≤ b) → (i : ℕ) → i < N → natAbs (at line i) ≤ b
+    pub line-within : (b : ℕ) → ((i : ℕ) → i < length src → natAbs (at src i) ≤ b) → (i : ℕ) → i < N
+        → natAbs (at line i) ≤ b
     line-within b w i h = subst (λ (z : ℤ). natAbs z ≤ b) (sym (line-at i h)) (w (j * N + i) (omega arith))
 
     pub line-room : (l : ℕ) → Room l src → Room l line
@@ -98,12 +101,29 @@ all-rows g n lines dst m evens odds j k hj hk = by-parity (k % 2) refl
     by-parity : (r : ℕ) → k % 2 ≡ r → at dst (k * lines + j) ≡ g j k
     by-parity zero q =
         let e : k ≡ 2 * (k / 2) = omega arith in
-        ap (at dst) (let i : k * lines + j ≡ k / 2 * (2 * lines) + j = omega (arith, ap (λ (v : ℕ). v * lines) e, mul-assoc 2 (k / 2) lines, mul-comm 2 lines, mul-assoc (k / 2) lines 2, mul-comm (k / 2 * lines) 2) in i)
+        ap (at dst) (let i : k * lines + j ≡ k / 2 * (2 * lines) + j = omega (
+          arith,
+          ap (λ (v : ℕ). v * lines) e,
+          mul-assoc 2 (k / 2) lines,
+          mul-comm 2 lines,
+          mul-assoc (k / 2) lines 2,
+          mul-comm (k / 2 * lines) 2,
+        ) in i)
         ∙ evens j (k / 2) hj (omega arith)
         ∙ ap (g j) (sym e)
     by-parity (suc zero) q =
         let e : k ≡ 2 * (k / 2) + 1 = omega arith in
-        ap (at dst) (let i : k * lines + j ≡ k / 2 * (2 * lines) + (lines + j) = omega (arith, ap (λ (v : ℕ). v * lines) e, add-mul (2 * (k / 2)) 1 lines, mul-assoc 2 (k / 2) lines, mul-comm 2 lines, mul-assoc (k / 2) lines 2, mul-comm (k / 2 * lines) 2) in i)
+        ap (at dst) (let i : k * lines + j
+        ≡ k / 2 * (2 * lines) + (lines + j) =
+        omega (
+          arith,
+          ap (λ (v : ℕ). v * lines) e,
+          add-mul (2 * (k / 2)) 1 lines,
+          mul-assoc 2 (k / 2) lines,
+          mul-comm 2 lines,
+          mul-assoc (k / 2) lines 2,
+          mul-comm (k / 2 * lines) 2,
+        ) in i)
         ∙ odds j (k / 2) hj (omega arith)
         ∙ ap (g j) (sym e)
     by-parity (suc (suc r)) q = absurd (let no : ⊥ = omega arith in no)

@@ -1,5 +1,5 @@
--- Halves that floor: a number is twice its half and a rest of 0 or 1; a sum of lines by their halves and rests; and rounding the
--- half of a number by 16 bits is rounding the number by 17.
+-- Halves that floor: a number is twice its half and a rest of 0 or 1; a sum of lines by their halves and rests; and
+-- rounding the half of a number by 16 bits is rounding the number by 17.
 -- Assumes nothing.
 use mathlib.Core.Path.{_≡_, sym, _∙_, ap, subst}
 use mathlib.Core.List.{List}
@@ -32,8 +32,14 @@ unfolding above below
 over-is z =
     let l = floor-left z 2 (lit< tt) in
     eq-of-parts (over z) (pos (l .rest))
-    (omega
-    (arith, l .whole, +-parts (z -ℤ half z) (negℤ (half z)), +-parts z (negℤ (half z)), neg-above (half z), neg-below (half z)))
+    (omega (
+      arith,
+      l .whole,
+      +-parts (z -ℤ half z) (negℤ (half z)),
+      +-parts z (negℤ (half z)),
+      neg-above (half z),
+      neg-below (half z),
+    ))
 
 pub over-small : (z : ℤ) → natAbs (over z) ≤ 1
 over-small z = omega (arith, ap natAbs (over-is z), floor-left z 2 (lit< tt) .less)
@@ -41,8 +47,15 @@ over-small z = omega (arith, ap natAbs (over-is z), floor-left z 2 (lit< tt) .le
 pub twice-and-over : (z : ℤ) → z ≡ (half z +ℤ half z) +ℤ over z
 twice-and-over z =
     eq-of-parts z ((half z +ℤ half z) +ℤ over z)
-    (omega
-    (arith, +-parts (half z +ℤ half z) (over z), +-parts (half z) (half z), +-parts (z -ℤ half z) (negℤ (half z)), +-parts z (negℤ (half z)), neg-above (half z), neg-below (half z)))
+    (omega (
+      arith,
+      +-parts (half z +ℤ half z) (over z),
+      +-parts (half z) (half z),
+      +-parts (z -ℤ half z) (negℤ (half z)),
+      +-parts z (negℤ (half z)),
+      neg-above (half z),
+      neg-below (half z),
+    ))
 
 pub half-bound : (z : ℤ) (b : ℕ) → natAbs z ≤ b * 2 → natAbs (half z) ≤ b
 half-bound z b h = shift-bound z 2 b (lit< tt) h
@@ -96,7 +109,8 @@ module _ (z u : ℤ) (eu : u ≡ half z) (h : natAbs z ≤ 2 ^ 29) where
   pub twice-fits : SFits w32 (toZ w32 (ofZ w32 (toZ w32 (ofZ w32 z) -ℤ toZ w32 (ofZ w32 u))) -ℤ toZ w32 (ofZ w32 u))
   twice-fits = let a = value in let b = halved in let c = once in simp toZ-ofZ twice
 
-  pub over-held : toZ w32 (ofZ w32 (toZ w32 (ofZ w32 (toZ w32 (ofZ w32 z) -ℤ toZ w32 (ofZ w32 u))) -ℤ toZ w32 (ofZ w32 u))) ≡ over z
+  pub over-held : toZ w32
+      (ofZ w32 (toZ w32 (ofZ w32 (toZ w32 (ofZ w32 z) -ℤ toZ w32 (ofZ w32 u))) -ℤ toZ w32 (ofZ w32 u))) ≡ over z
   over-held = let a = value in let b = halved in let c = once in let d = twice in simp toZ-ofZ over-u
 
 module _ (p q : ℤ) (fp : SFits w32 p) (fq : SFits w32 q) (h : natAbs p + natAbs q < 2 ^ 31) where
@@ -107,7 +121,8 @@ module _ (p q : ℤ) (fp : SFits w32 p) (fq : SFits w32 q) (h : natAbs p + natAb
   pub join-fits : SFits w32 (toZ w32 (ofZ w32 p) +ℤ toZ w32 (ofZ w32 (shrZ (toZ w32 (ofZ w32 q)) 2)))
   join-fits = let a = fp in let b = fq in let c = shift-fits w32 q 2 fq in simp toZ-ofZ joined
 
-  pub join-is : toZ w32 (ofZ w32 (toZ w32 (ofZ w32 p) +ℤ toZ w32 (ofZ w32 (shrZ (toZ w32 (ofZ w32 q)) 2)))) ≡ p +ℤ half q
+  pub join-is : toZ w32 (ofZ w32 (toZ w32 (ofZ w32 p) +ℤ toZ w32 (ofZ w32 (shrZ (toZ w32 (ofZ w32 q)) 2))))
+      ≡ p +ℤ half q
   join-is = let a = fp in let b = fq in let c = shift-fits w32 q 2 fq in let d = joined in simp toZ-ofZ
 
 -- ---- lines
@@ -158,8 +173,14 @@ module _ (x u v : List ℤ) (small : (i : ℕ) → i < 32 → natAbs (at x i) �
         let c = coefficient-at i h in
         let k = c .number in
         subst (λ (n : ℕ). natAbs (at p n) + natAbs (at q n) < 2 ^ 31) (c .there)
-        (omega
-        (arith, ap natAbs (hp k (c .inside)), ap natAbs (hq k (c .inside)), line-bound 5 (omega arith) u 1047552 half-within k (c .inside), line-bound 5 (omega arith) v 1 over-within k (c .inside)))
+        (omega (
+          arith,
+          ap natAbs (hp k (c .inside)),
+          ap natAbs (hq k (c .inside)),
+          line-bound 5 (omega arith) u 1047552 half-within k (c .inside),
+          line-bound 5 (omega arith) v 1 over-within k
+              (c .inside),
+        ))
 
     pub parts-join : (k : ℕ) → k < 32 → at p (place 5 k) +ℤ half (at q (place 5 k)) ≡ half (lineAt 32 x k)
     parts-join k h =

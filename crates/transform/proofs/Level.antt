@@ -1,5 +1,6 @@
--- One level of a butterfly, as a law over the half side 2^l: what the sums and the differences of a line of side 2^(l+1) give, how
--- large they are, and how a row of that side comes from a row of half the side and the odd half. Each line function is this law once.
+-- One level of a butterfly, as a law over the half side 2^l: what the sums and the differences of a line of side
+-- 2^(l+1) give, how large they are, and how a row of that side comes from a row of half the side and the odd half. Each
+-- line function is this law once.
 -- Assumes nothing.
 use mathlib.Core.Path.{_≡_, refl, sym, _∙_, ap, subst}
 use mathlib.Core.Bool.{cond}
@@ -43,7 +44,8 @@ module _ (l : ℕ) (hl : l < 5) (x : List ℤ) (lx : length x ≡ 2 ^ l + 2 ^ l)
 
     pub table-long : length o * length o ≤ length t
     table-long =
-        subst (λ (m : ℕ). m * m ≤ length t) (sym lo) (omega (arith, ap (λ (s : List ℤ). length s) et, odd-rows-length (2 ^ l)))
+        subst (λ (m : ℕ). m * m ≤ length t) (sym lo)
+        (omega (arith, ap (λ (s : List ℤ). length s) et, odd-rows-length (2 ^ l)))
 
     -- the odd coefficients are what the differences gain
     pub odd-coefficient : (k : ℕ) → k < 2 ^ l → gained t o (length o) k ≡ lineAt (2 ^ l + 2 ^ l) x (2 * k + 1)
@@ -56,7 +58,8 @@ module _ (l : ℕ) (hl : l < 5) (x : List ℤ) (lx : length x ≡ 2 ^ l + 2 ^ l)
         ap (λ (z : ℤ). z *ℤ at o n) (entry n k hn hk)
         ∙ ap (λ (z : ℤ). matrix (2 ^ l + 2 ^ l) (2 * k + 1) n *ℤ z)
         (ho n hn ∙ ap (λ (m : ℕ). at x n -ℤ at x (m - 1 - n)) lx))
-        ∙ sym (fold-antisymmetric (2 ^ l) (matrix (2 ^ l + 2 ^ l) (2 * k + 1)) (at x) (λ n hn. level l hl .odd k n hk hn))
+        ∙ sym (fold-antisymmetric (2 ^ l) (matrix (2 ^ l + 2 ^ l) (2 * k + 1)) (at x)
+        (λ n hn. level l hl .odd k n hk hn))
 
     -- and no part of it reaches 2^31
     pub odd-half-fits : Room (suc l) x → (k : ℕ) → k < 2 ^ l → spent t o (length o) k < 2 ^ 31
@@ -72,27 +75,41 @@ module _ (l : ℕ) (hl : l < 5) (x : List ℤ) (lx : length x ≡ 2 ^ l + 2 ^ l)
         weights
         (weighted-within (2 ^ l) (most + most) (λ n. natAbs (at t (n * 2 ^ l + k))) (λ n. natAbs (at o n))
         (λ n hn.
-        omega
-        (arith, ap natAbs (ho n hn), magnitude-- (at x n) (at x (length x - 1 - n)), r .each n (omega arith), r .each (length x - 1 - n) (omega arith)))) in
-        let bound : w * (most + most) ≤ 64 * 2 ^ l * (most + most) = mul-le-mul-right (most + most) (half-row-sum l hl k hk) in
+        omega (
+          arith,
+          ap natAbs (ho n hn),
+          magnitude-- (at x n) (at x (length x - 1 - n)),
+          r .each n (omega arith),
+          r .each (length x - 1 - n) (omega arith),
+        ))) in
+        let bound : w * (most + most) ≤ 64 * 2 ^ l * (most + most) = mul-le-mul-right (most + most)
+        (half-row-sum l hl k hk) in
         let total : 64 * 2 ^ l * (most + most) ≡ 64 * (most * 2 ^ suc l) =
         mul-assoc 64 (2 ^ l) (most + most)
         ∙ ap (λ (v : ℕ). 64 * v)
         (mul-comm (2 ^ l) (most + most) ∙ add-mul most most (2 ^ l) ∙ sym (mul-add most (2 ^ l) (2 ^ l))
         ∙ ap (λ (v : ℕ). most * v) (sym (two-pow-succ l))) in
-        subst (λ (m : ℕ). sumℕ m (λ n. natAbs (at t (n * m + k)) * natAbs (at o n)) < 2 ^ 31) (sym lo) (omega (arith, r .room))
+        subst (λ (m : ℕ). sumℕ m (λ n. natAbs (at t (n * m + k)) * natAbs (at o n)) < 2 ^ 31) (sym lo)
+        (omega (arith, r .room))
 
   -- the sums have room in half the side
-  pub sums-room : (e : List ℤ) → length e ≡ 2 ^ l → ((n : ℕ) → n < 2 ^ l → at e n ≡ sumOf x n) → Room (suc l) x → Room l e
+  pub sums-room : (e : List ℤ) → length e ≡ 2 ^ l → ((n : ℕ) → n < 2 ^ l → at e n ≡ sumOf x n) → Room (suc l) x
+      → Room l e
   sums-room e le he r =
       record {
         most = r .most + r .most;
         each = λ i hi.
-            omega
-            (arith, ap natAbs (he i (omega arith)), magnitude-+ (at x i) (at x (length x - 1 - i)), r .each i (omega arith), r .each (length x - 1 - i) (omega arith));
+            omega (
+              arith,
+              ap natAbs (he i (omega arith)),
+              magnitude-+ (at x i) (at x (length x - 1 - i)),
+              r .each i (omega arith),
+              r .each (length x - 1 - i) (omega arith),
+            );
         room =
             subst (λ (v : ℕ). v ≤ 33521664)
-            (ap (λ (v : ℕ). r .most * v) (two-pow-succ l) ∙ mul-add (r .most) (2 ^ l) (2 ^ l) ∙ sym (add-mul (r .most) (r .most) (2 ^ l)))
+            (ap (λ (v : ℕ). r .most * v) (two-pow-succ l) ∙ mul-add (r .most) (2 ^ l) (2 ^ l)
+            ∙ sym (add-mul (r .most) (r .most) (2 ^ l)))
             (r .room);
       }
 

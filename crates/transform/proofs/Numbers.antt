@@ -1,4 +1,5 @@
--- The paper's numbers for the transform, P1, P3 and P4, and the order of its faults, computed over the definitions of the call.
+-- The paper's numbers for the transform, P1, P3 and P4, and the order of its faults, computed over the definitions of
+-- the call.
 -- Assumes nothing.
 use mathlib.Core.Path.{_≡_, refl}
 use mathlib.Core.List.{List, [], _∷_}

@@ -1,5 +1,5 @@
--- The odd half of a line, gathered value by value: before the turn n each output has gained the first n products, and with the next
--- one it still fits. The column of the table that is handed on is the part from n·h of length h.
+-- The odd half of a line, gathered value by value: before the turn n each output has gained the first n products, and
+-- with the next one it still fits. The column of the table that is handed on is the part from n·h of length h.
 -- Assumes nothing.
 use mathlib.Core.Path.{_≡_, refl, sym, _∙_, ap, subst}
 use mathlib.Core.List.{List, [], _∷_}

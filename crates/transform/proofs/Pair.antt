@@ -47,7 +47,8 @@ module _ (f : ℤ → ℤ → ℤ) (p q : ℤ) (hp : natAbs p ≤ 16760832) (hq 
 
 sum-is : (x : List ℤ) → pos 64 *ℤ (at x 0 +ℤ at x 1) ≡ lineAt 2 x 0
 unfolding lineAt
-sum-is x = dist-left (pos 64) (at x 0) (at x 1) ∙ ap (λ (z : ℤ). z +ℤ pos 64 *ℤ at x 1) (sym (+ℤ-idl (pos 64 *ℤ at x 0)))
+sum-is x = dist-left (pos 64) (at x 0) (at x 1)
+    ∙ ap (λ (z : ℤ). z +ℤ pos 64 *ℤ at x 1) (sym (+ℤ-idl (pos 64 *ℤ at x 0)))
 
 difference-is : (x : List ℤ) → pos 64 *ℤ (at x 0 -ℤ at x 1) ≡ lineAt 2 x 1
 unfolding lineAt
@@ -63,7 +64,8 @@ pair-row x old s d h es ed =
     record {
       holds = λ k hk. at-place k hk;
       kept = λ p hp.
-          getD-set-other (set old 0 s) 1 p d (pos 0) (λ e. omega arith) ∙ getD-set-other old 0 p s (pos 0) (λ e. omega arith);
+          getD-set-other (set old 0 s) 1 p d (pos 0) (λ e. omega arith)
+          ∙ getD-set-other old 0 p s (pos 0) (λ e. omega arith);
     }
   where
     at-place : (k : ℕ) → k < 2 → at (set (set old 0 s) 1 d) (place 1 k) ≡ lineAt 2 x k
@@ -72,5 +74,6 @@ pair-row x old s d h es ed =
         ∙ getD-set-same old 0 s (pos 0) (omega arith)
         ∙ es
         ∙ sum-is x
-    at-place (suc zero) hk = getD-set-same (set old 0 s) 1 d (pos 0) (simp length-set (omega arith)) ∙ ed ∙ difference-is x
+    at-place (suc zero) hk = getD-set-same (set old 0 s) 1 d (pos 0) (simp length-set (omega arith)) ∙ ed
+        ∙ difference-is x
     at-place (suc (suc k)) hk = absurd (omega arith)

@@ -1,4 +1,5 @@
--- The places of the coefficients in a row: those of side 32 serve every side, at a step of 32 over the side. One computed test.
+-- The places of the coefficients in a row: those of side 32 serve every side, at a step of 32 over the side. One
+-- computed test.
 -- Assumes nothing.
 use mathlib.Core.Path.{_≡_, sym, _∙_, ap, subst}
 use mathlib.Core.Bool.{Bool, cond, _&&_}
@@ -35,12 +36,14 @@ module _ (l : ℕ) (hl : l ≤ 5) (m : ℕ) (em : m ≡ 2 ^ l) (k : ℕ) (hk : k
   step-inside =
       subst (λ (n : ℕ). k * (32 / n) < 32) (sym em)
       (ltb→lt (k * (32 / 2 ^ l)) 32
-      (and-yes (ltb (k * (32 / 2 ^ l)) 32) (eqb (getD table (k * (32 / 2 ^ l)) 0) (place l k) && ltb (place l k) (2 ^ l)) passed .0))
+      (and-yes (ltb (k * (32 / 2 ^ l)) 32) (eqb (getD table (k * (32 / 2 ^ l)) 0) (place l k)
+      && ltb (place l k) (2 ^ l)) passed .0))
 
   rest : T (eqb (getD table (k * (32 / 2 ^ l)) 0) (place l k) && ltb (place l k) (2 ^ l))
   unfolding right
   rest =
-      and-yes (ltb (k * (32 / 2 ^ l)) 32) (eqb (getD table (k * (32 / 2 ^ l)) 0) (place l k) && ltb (place l k) (2 ^ l)) passed .1
+      and-yes (ltb (k * (32 / 2 ^ l)) 32) (eqb (getD table (k * (32 / 2 ^ l)) 0) (place l k) && ltb (place l k) (2 ^ l))
+      passed .1
 
   pub place-at : (held : List ℕ) → held ≡ table → getD held (k * (32 / m)) 0 ≡ place l k
   place-at held et =
@@ -52,7 +55,8 @@ module _ (l : ℕ) (hl : l ≤ 5) (m : ℕ) (em : m ≡ 2 ^ l) (k : ℕ) (hk : k
   pub place-inside : place l k < m
   place-inside =
       subst (λ (n : ℕ). place l k < n) (sym em)
-      (ltb→lt (place l k) (2 ^ l) (and-yes (eqb (getD table (k * (32 / 2 ^ l)) 0) (place l k)) (ltb (place l k) (2 ^ l)) rest .1))
+      (ltb→lt (place l k) (2 ^ l) (and-yes (eqb (getD table (k * (32 / 2 ^ l)) 0) (place l k)) (ltb (place l k) (2 ^ l))
+      rest .1))
 
 -- ---- every place of a row of side 32 is some coefficient's
 rank : ℕ → ℕ → ℕ

@@ -1,5 +1,5 @@
--- The rounding shift as the machine makes it, of a sum z and a shift s of at most 16: every step fits, and the result is the
--- definition's.
+-- The rounding shift as the machine makes it, of a sum z and a shift s of at most 16: every step fits, and the result
+-- is the definition's.
 -- Assumes nothing.
 use mathlib.Core.Path.{_≡_, sym, _∙_, ap, subst}
 use Prim.Native.Nat.{ℕ, _*_, _-_, _%_, _^_, _<_, _≤_}
@@ -21,7 +21,8 @@ use Rattle.integers.proofs.Magnitude.{magnitude-+}
 unit-is : (s : ℕ) → s < 31 → toZ w32 (1 * 2 ^ s % 2 ^ 32) ≡ pos (2 ^ s)
 unit-is s h =
     ap (toZ w32)
-    (mod-eq-of-lt (subst (λ (n : ℕ). n < 2 ^ 32) (sym (one-mul (2 ^ s))) (pow-lt {i = s} {j = 32} (omega arith))) ∙ one-mul (2 ^ s))
+    (mod-eq-of-lt (subst (λ (n : ℕ). n < 2 ^ 32) (sym (one-mul (2 ^ s))) (pow-lt {i = s} {j = 32} (omega arith)))
+    ∙ one-mul (2 ^ s))
     ∙ toZ-pos w32 (pow-lt {i = s} {j = 31} h)
 
 module _ (z : ℤ) (s : ℕ) (lo : 1 ≤ s) (hi : s ≤ 16) (b : natAbs z ≤ 32736 * 2 ^ s) where
@@ -43,7 +44,8 @@ module _ (z : ℤ) (s : ℕ) (lo : 1 ≤ s) (hi : s ≤ 16) (b : natAbs z ≤ 32
   pub sum-fits : SFits w32 (toZ w32 (ofZ w32 z) +ℤ toZ w32 (1 * 2 ^ (s - 1) % 2 ^ 32))
   sum-fits = let f = summand in simp (toZ-ofZ, unit-is (s - 1) (omega arith)) whole
 
-  pub result-fits : SFits w16 (toZ w32 (ofZ w32 (shrZ (toZ w32 (ofZ w32 (toZ w32 (ofZ w32 z) +ℤ toZ w32 (1 * 2 ^ (s - 1) % 2 ^ 32)))) (2 ^ s))))
+  pub result-fits : SFits w16
+      (toZ w32 (ofZ w32 (shrZ (toZ w32 (ofZ w32 (toZ w32 (ofZ w32 z) +ℤ toZ w32 (1 * 2 ^ (s - 1) % 2 ^ 32)))) (2 ^ s))))
   result-fits =
       let f = summand in
       let g = whole in
@@ -51,7 +53,9 @@ module _ (z : ℤ) (s : ℕ) (lo : 1 ≤ s) (hi : s ≤ 16) (b : natAbs z ≤ 32
       let l : SFits w16 (rounded z s) = result (lit< tt) in
       simp (toZ-ofZ, unit-is (s - 1) (omega arith)) l
 
-  pub result-is : toZ w16 (ofZ w16 (toZ w32 (ofZ w32 (shrZ (toZ w32 (ofZ w32 (toZ w32 (ofZ w32 z) +ℤ toZ w32 (1 * 2 ^ (s - 1) % 2 ^ 32)))) (2 ^ s)))))
+  pub result-is : toZ w16
+      (ofZ w16 (toZ w32
+      (ofZ w32 (shrZ (toZ w32 (ofZ w32 (toZ w32 (ofZ w32 z) +ℤ toZ w32 (1 * 2 ^ (s - 1) % 2 ^ 32)))) (2 ^ s)))))
       ≡ rounded z s
   result-is =
       let f = summand in

@@ -1,5 +1,5 @@
--- The call's faults one after the other, as its code meets them: what the verdict and the buffer are where one holds, and where none
--- does. The coefficients depend on nothing behind the block.
+-- The call's faults one after the other, as its code meets them: what the verdict and the buffer are where one holds,
+-- and where none does. The coefficients depend on nothing behind the block.
 -- Assumes nothing.
 use mathlib.Core.Path.{_≡_, sym, _∙_, ap}
 use mathlib.Core.Bool.{true, false}
@@ -26,7 +26,8 @@ use Rattle.transform.specs.Call.{called, wild, transVerdict, transformed
 module _ (buffer : List ℤ) (lw lh : ℕ) where
   -- refused with this number, and nothing changed
   abbrev pub Refuses : ℕ → Type 0
-  Refuses number = (refused number 0 ≡ transVerdict (called buffer lw lh)) × (buffer ≡ transBuffer (called buffer lw lh))
+  Refuses number =
+      (refused number 0 ≡ transVerdict (called buffer lw lh)) × (buffer ≡ transBuffer (called buffer lw lh))
 
   unchanged : (number : ℕ) → transVerdict (called buffer lw lh) ≡ refused number 0 → Refuses number
   unfolding transBuffer

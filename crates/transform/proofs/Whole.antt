@@ -1,5 +1,5 @@
--- The two stages together are the double sum; how large the sums of either stage and the coefficients can be; and when each
--- place holds its coefficient, the block is the list that the definition says.
+-- The two stages together are the double sum; how large the sums of either stage and the coefficients can be; and when
+-- each place holds its coefficient, the block is the list that the definition says.
 -- Assumes nothing.
 use mathlib.Core.Path.{_≡_, sym, _∙_, ap, subst}
 use mathlib.Core.List.{List}
@@ -64,8 +64,12 @@ module _ (lw lh : ℕ) (hw : lw ≤ 5) (hh : lh ≤ 5) (r : List ℤ) (lr : leng
   pub first-stage-bound : (y u : ℕ) → y < 2 ^ lh → u < 2 ^ lw → natAbs (stageAt (2 ^ lw) r y u) ≤ 65472 * 2 ^ lw
   unfolding stageAt
   first-stage-bound y u hy hu =
-      omega
-      (arith, row-bound lw (omega arith) (λ x. at r (y * 2 ^ lw + x)) 1023 (λ x hx. row-small y x hy hx) u hu, mul-assoc 64 (2 ^ lw) 1023, mul-comm (2 ^ lw) 1023)
+      omega (
+        arith,
+        row-bound lw (omega arith) (λ x. at r (y * 2 ^ lw + x)) 1023 (λ x hx. row-small y x hy hx) u hu,
+        mul-assoc 64 (2 ^ lw) 1023,
+        mul-comm (2 ^ lw) 1023,
+      )
 
   -- the widened block a
   module _ (a : List ℤ) (la : length a ≡ length r) (ea : (i : ℕ) → i < length r → at a i ≡ at r i) where
@@ -82,7 +86,8 @@ module _ (lw lh : ℕ) (hw : lw ≤ 5) (hh : lh ≤ 5) (r : List ℤ) (lr : leng
     unfolding stageAt
     widened-stage lines b e sb y u hy hu =
         subst (λ (h : ℕ). Staged (λ z. z) lw h a b h) e sb y u hy hu
-        ∙ sum-ext onℤ (2 ^ lw) (λ x. matrix (2 ^ lw) u x *ℤ at a (y * 2 ^ lw + x)) (λ x. matrix (2 ^ lw) u x *ℤ at r (y * 2 ^ lw + x))
+        ∙ sum-ext onℤ (2 ^ lw) (λ x. matrix (2 ^ lw) u x *ℤ at a (y * 2 ^ lw + x))
+        (λ x. matrix (2 ^ lw) u x *ℤ at r (y * 2 ^ lw + x))
         (λ x hx.
         ap (λ (z : ℤ). matrix (2 ^ lw) u x *ℤ z)
         (ea (y * 2 ^ lw + x) (omega (arith, inside (2 ^ lw) y x hx (2 ^ lh) hy, mul-comm (2 ^ lw) (2 ^ lh)))))
@@ -116,8 +121,15 @@ module _ (lw lh : ℕ) (hw : lw ≤ 5) (hh : lh ≤ 5) (r : List ℤ) (lr : leng
     second-bound : (u v : ℕ) → u < 2 ^ lw → v < 2 ^ lh → natAbs (stageAt (2 ^ lh) b u v) ≤ 32736 * 2 ^ (7 + lw + lh)
     unfolding stageAt
     second-bound u v hu hv =
-        omega
-        (arith, row-bound lh (omega arith) (λ y. at b (u * 2 ^ lh + y)) (65472 * 2 ^ lw) (λ y hy. first-within (u * 2 ^ lh + y) (inside (2 ^ lh) u y hy (2 ^ lw) hu)) v hv, shift-is lw lh, mul-assoc 64 (2 ^ lh) (65472 * 2 ^ lw), mul-comm (2 ^ lh) (65472 * 2 ^ lw), mul-assoc 65472 (2 ^ lw) (2 ^ lh))
+        omega (
+          arith,
+          row-bound lh (omega arith) (λ y. at b (u * 2 ^ lh + y)) (65472 * 2 ^ lw)
+              (λ y hy. first-within (u * 2 ^ lh + y) (inside (2 ^ lh) u y hy (2 ^ lw) hu)) v hv,
+          shift-is lw lh,
+          mul-assoc 64 (2 ^ lh) (65472 * 2 ^ lw),
+          mul-comm (2 ^ lh) (65472 * 2 ^ lw),
+          mul-assoc 65472 (2 ^ lw) (2 ^ lh),
+        )
 
     -- but for 32 by 32 they leave room for the second stage
     pub second-room : length b ≡ 2 ^ lw * 2 ^ lh → lw + lh ≤ 9 → Room lh b

@@ -1,6 +1,6 @@
--- The N-point transform of a line, and how the butterflies work it out: the even coefficients are those of the sums of the values
--- that stand equally far from the two ends, the odd ones come from the differences. A row holds them in the order in which they
--- arise, the odd ones behind the even ones.
+-- The N-point transform of a line, and how the butterflies work it out: the even coefficients are those of the sums of
+-- the values that stand equally far from the two ends, the odd ones come from the differences. A row holds them in the
+-- order in which they arise, the odd ones behind the even ones.
 use mathlib.Core.Path.{_≡_}
 use mathlib.Core.Logic.{_≢_}
 use mathlib.Core.Bool.{Bool, cond}

@@ -11,7 +11,8 @@ ghost use Rattle.transform.specs.Coefficients.{coefficients};
 
 fn widen(block: &[i16], wide: &mut [i32])
     requires { ⌜ length (now wide) ≡ length (now block) ⌝ }
-    ensures { λ _. ⌜ ((i : ℕ) → i < length (now (block .entry)) → at (now (wide .exit)) i ≡ at (now (block .entry)) i) ⌝ }
+    ensures { λ _. ⌜ ((i : ℕ) → i < length (now (block .entry))
+        → at (now (wide .exit)) i ≡ at (now (block .entry)) i) ⌝ }
 {
     let n = block.len();
     let mut i: usize = 0;
@@ -26,7 +27,8 @@ fn widen(block: &[i16], wide: &mut [i32])
 fn settle(sums: &[i32], shift: u32, block: &mut [i16])
     requires { ⌜ (length (now block) ≡ length (now sums)) × (1 ≤ shift) × (shift ≤ 16) ⌝ }
     requires { ⌜ ((i : ℕ) → i < length (now sums) → natAbs (at (now sums) i) ≤ 32736 * 2 ^ shift) ⌝ }
-    ensures { λ _. ⌜ ((i : ℕ) → i < length (now (sums .entry)) → at (now (block .exit)) i ≡ rounded (at (now (sums .entry)) i) shift) ⌝ }
+    ensures { λ _. ⌜ ((i : ℕ) → i < length (now (sums .entry))
+        → at (now (block .exit)) i ≡ rounded (at (now (sums .entry)) i) shift) ⌝ }
 {
     let half = 1i32 << (shift - 1);
     let n = sums.len();
@@ -60,7 +62,8 @@ pub fn side(log2: usize) -> usize
 
 fn both_stages(block: &mut [i16], a: &mut [i32], b: &mut [i32], lw: usize, lh: usize)
     requires { ⌜ (1 ≤ lw) × (lw ≤ 5) × (1 ≤ lh) × (lh ≤ 5) ⌝ }
-    requires { ⌜ (length (now block) ≡ 2 ^ lw * 2 ^ lh) × (length (now a) ≡ length (now block)) × (length (now b) ≡ length (now block)) ⌝ }
+    requires { ⌜ (length (now block) ≡ 2 ^ lw * 2 ^ lh) × (length (now a) ≡ length (now block))
+        × (length (now b) ≡ length (now block)) ⌝ }
     requires { ⌜ ((i : ℕ) → i < length (now block) → natAbs (at (now block) i) ≤ 1023) ⌝ }
     ensures { λ _. ⌜ now (block .exit) ≡ coefficients (now (block .entry)) lw lh ⌝ }
 {
@@ -80,7 +83,8 @@ fn both_stages(block: &mut [i16], a: &mut [i32], b: &mut [i32], lw: usize, lh: u
 // The coefficients of the block in place of its residuals. What a small block works in is small.
 pub fn transform(block: &mut [i16], lw: usize, lh: usize)
     requires { ⌜ (1 ≤ lw) × (lw ≤ 5) × (1 ≤ lh) × (lh ≤ 5) ⌝ }
-    requires { ⌜ (length (now block) ≡ 2 ^ lw * 2 ^ lh) × ((i : ℕ) → i < length (now block) → natAbs (at (now block) i) ≤ 1023) ⌝ }
+    requires { ⌜ (length (now block) ≡ 2 ^ lw * 2 ^ lh)
+        × ((i : ℕ) → i < length (now block) → natAbs (at (now block) i) ≤ 1023) ⌝ }
     ensures { λ _. ⌜ now (block .exit) ≡ coefficients (now (block .entry)) lw lh ⌝ }
 {
     let n = block.len();

@@ -1,5 +1,5 @@
-// The butterflies: the transform of one line, handed over as the part of the block that it occupies. All sums are of 32 bits; the
-// contracts say how large a value may be for that.
+// The butterflies: the transform of one line, handed over as the part of the block that it occupies. All sums are of 32
+// bits; the contracts say how large a value may be for that.
 ghost use mathlib.Core.Path.{_≡_};
 ghost use Prim.Native.Nat.{ℕ, _+_, _*_, _^_, _<_, _≤_};
 ghost use lib.ListN.{length};
@@ -13,7 +13,8 @@ pub fn fold(x: &[i32], e: &mut [i32], o: &mut [i32])
     requires { ⌜ (length (now e) + length (now e) ≡ length (now x)) × (length (now o) ≡ length (now e)) ⌝ }
     requires { ⌜ ((i : ℕ) → i < length (now x) → natAbs (at (now x) i) ≤ 2 ^ 29) ⌝ }
     ensures { λ _. ⌜ ((k : ℕ) → k < length (now (e .entry)) → at (now (e .exit)) k ≡ sumOf (now (x .entry)) k) ⌝ }
-    ensures { λ _. ⌜ ((k : ℕ) → k < length (now (e .entry)) → at (now (o .exit)) k ≡ differenceOf (now (x .entry)) k) ⌝ }
+    ensures { λ _. ⌜ ((k : ℕ) → k < length (now (e .entry))
+        → at (now (o .exit)) k ≡ differenceOf (now (x .entry)) k) ⌝ }
 {
     let n = x.len();
     let h = e.len();
@@ -31,7 +32,8 @@ pub fn fold(x: &[i32], e: &mut [i32], o: &mut [i32])
 fn add_times(t: &[i32], v: i32, b: &mut [i32])
     requires { ⌜ length (now t) ≡ length (now b) ⌝ }
     requires { ⌜ ((k : ℕ) → k < length (now b) → natAbs (at (now b) k) + natAbs (at (now t) k) * natAbs v < 2 ^ 31) ⌝ }
-    ensures { λ _. ⌜ ((k : ℕ) → k < length (now (b .entry)) → at (now (b .exit)) k ≡ at (now (b .entry)) k +ℤ at (now (t .entry)) k *ℤ v) ⌝ }
+    ensures { λ _. ⌜ ((k : ℕ) → k < length (now (b .entry))
+        → at (now (b .exit)) k ≡ at (now (b .entry)) k +ℤ at (now (t .entry)) k *ℤ v) ⌝ }
 {
     let n = b.len();
     let mut k: usize = 0;
@@ -44,10 +46,12 @@ fn add_times(t: &[i32], v: i32, b: &mut [i32])
 
 // The odd half of a line from its differences: each of them times its column of the odd rows.
 pub fn odd_half(t: &[i32], o: &[i32], b: &mut [i32])
-    requires { ⌜ (length (now o) ≡ length (now b)) × (length (now o) ≤ 16) × (length (now o) * length (now o) ≤ length (now t)) ⌝ }
+    requires { ⌜ (length (now o) ≡ length (now b)) × (length (now o) ≤ 16)
+        × (length (now o) * length (now o) ≤ length (now t)) ⌝ }
     requires { ⌜ ((k : ℕ) → at (now b) k ≡ pos 0) ⌝ }
     requires { ⌜ ((k : ℕ) → k < length (now b) → spent (now t) (now o) (length (now o)) k < 2 ^ 31) ⌝ }
-    ensures { λ _. ⌜ ((k : ℕ) → k < length (now (b .entry)) → at (now (b .exit)) k ≡ gained (now (t .entry)) (now (o .entry)) (length (now (o .entry))) k) ⌝ }
+    ensures { λ _. ⌜ ((k : ℕ) → k < length (now (b .entry))
+        → at (now (b .exit)) k ≡ gained (now (t .entry)) (now (o .entry)) (length (now (o .entry))) k) ⌝ }
 {
     let h = o.len();
     let mut n: usize = 0;
@@ -63,8 +67,10 @@ pub fn odd_half(t: &[i32], o: &[i32], b: &mut [i32])
 // b goes behind as many places of the row as it has itself.
 fn put(b: &[i32], row: &mut [i32])
     requires { ⌜ length (now b) + length (now b) ≤ length (now row) ⌝ }
-    ensures { λ _. ⌜ ((k : ℕ) → k < length (now (b .entry)) → at (now (row .exit)) (length (now (b .entry)) + k) ≡ at (now (b .entry)) k) ⌝ }
-    ensures { λ _. ⌜ ((p : ℕ) → length (now (b .entry)) + length (now (b .entry)) ≤ p → at (now (row .exit)) p ≡ at (now (row .entry)) p) ⌝ }
+    ensures { λ _. ⌜ ((k : ℕ) → k < length (now (b .entry)) → at (now (row .exit)) (length (now (b .entry)) + k)
+        ≡ at (now (b .entry)) k) ⌝ }
+    ensures { λ _. ⌜ ((p : ℕ) → length (now (b .entry)) + length (now (b .entry)) ≤ p
+        → at (now (row .exit)) p ≡ at (now (row .entry)) p) ⌝ }
 {
     let h = b.len();
     let mut k: usize = 0;

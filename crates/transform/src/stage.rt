@@ -1,5 +1,5 @@
-// The stages: each line of a list of lines is transformed and goes down its own column of the result, so that the second stage meets
-// the columns of the first as its lines.
+// The stages: each line of a list of lines is transformed and goes down its own column of the result, so that the
+// second stage meets the columns of the first as its lines.
 use crate::butterfly::fold;
 use crate::butterfly::line2;
 use crate::butterfly::line4;
@@ -52,7 +52,8 @@ const PLACES: [u8; 32] = [
 // The numbers of b down column c of a grid.
 fn store(b: &[i32], dst: &mut [i32], width: usize, c: usize)
     requires { ⌜ (c < width) × (length (now b) * width ≤ length (now dst)) ⌝ }
-    ensures { λ _. ⌜ Placed width c (length (now (b .entry))) (at (now (b .entry))) (now (dst .entry)) (now (dst .exit)) ⌝ }
+    ensures { λ _. ⌜ Placed width c (length (now (b .entry))) (at (now (b .entry))) (now (dst .entry))
+        (now (dst .exit)) ⌝ }
 {
     let n = b.len();
     let mut k: usize = 0;
@@ -66,7 +67,8 @@ fn store(b: &[i32], dst: &mut [i32], width: usize, c: usize)
 // The coefficients of a row in their own order, down column c of a grid.
 pub fn store_row(log2: usize, row: &[i32], dst: &mut [i32], width: usize, c: usize)
     requires { ⌜ (log2 ≤ 5) × (length (now row) ≡ 2 ^ log2) × (c < width) × (2 ^ log2 * width ≤ length (now dst)) ⌝ }
-    ensures { λ _. ⌜ Placed width c (2 ^ log2) (λ k. at (now (row .entry)) (place log2 k)) (now (dst .entry)) (now (dst .exit)) ⌝ }
+    ensures { λ _. ⌜ Placed width c (2 ^ log2) (λ k. at (now (row .entry)) (place log2 k)) (now (dst .entry))
+        (now (dst .exit)) ⌝ }
 {
     let places = PLACES;
     let n = row.len();
@@ -165,10 +167,12 @@ fn lines32(lines: usize, src: &[i32], dst: &mut [i32])
     }
 }
 
-// The odd coefficients of 16-point lines and, below, the even ones. In two loops the compiler takes several lines at a time.
+// The odd coefficients of 16-point lines and, below, the even ones. In two loops the compiler takes several lines at a
+// time.
 fn odds16(lines: usize, src: &[i32], dst: &mut [i32])
     requires { ⌜ (lines ≤ 32) × (length (now src) ≡ lines * 16) × (length (now dst) ≡ 16 * lines) × Room 4 (now src) ⌝ }
-    ensures { λ _. ⌜ Columns (λ j k. stageAt 16 (now (src .entry)) j (2 * k + 1)) 8 (2 * lines) (λ j. lines + j) (now (dst .exit)) lines ⌝ }
+    ensures { λ _. ⌜ Columns (λ j k. stageAt 16 (now (src .entry)) j (2 * k + 1)) 8 (2 * lines) (λ j. lines + j)
+        (now (dst .exit)) lines ⌝ }
 {
     let t8 = tables::odd_rows::odd_8();
     let mut j: usize = 0;
@@ -187,8 +191,10 @@ fn odds16(lines: usize, src: &[i32], dst: &mut [i32])
 
 fn evens16(lines: usize, src: &[i32], dst: &mut [i32])
     requires { ⌜ (lines ≤ 32) × (length (now src) ≡ lines * 16) × (length (now dst) ≡ 16 * lines) × Room 4 (now src) ⌝ }
-    ensures { λ _. ⌜ Columns (λ j k. stageAt 16 (now (src .entry)) j (2 * k)) 8 (2 * lines) (λ j. j) (now (dst .exit)) lines ⌝ }
-    ensures { λ _. ⌜ Columns (λ j k. at (now (dst .entry)) (k * (2 * lines) + (lines + j))) 8 (2 * lines) (λ j. lines + j) (now (dst .exit)) lines ⌝ }
+    ensures { λ _. ⌜ Columns (λ j k. stageAt 16 (now (src .entry)) j (2 * k)) 8 (2 * lines) (λ j. j) (now (dst .exit))
+        lines ⌝ }
+    ensures { λ _. ⌜ Columns (λ j k. at (now (dst .entry)) (k * (2 * lines) + (lines + j))) 8 (2 * lines)
+        (λ j. lines + j) (now (dst .exit)) lines ⌝ }
 {
     let t4 = tables::odd_rows::odd_4();
     let t2 = tables::odd_rows::odd_2();

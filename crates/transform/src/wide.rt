@@ -1,5 +1,6 @@
-// The second stage of a block of 32 by 32, whose sums may need a bit more than 32 have: it yields their halves. Where a line is small
-// enough its sums are halved; a larger line is cut into its halves and what is left of them, and each part is transformed.
+// The second stage of a block of 32 by 32, whose sums may need a bit more than 32 have: it yields their halves. Where a
+// line is small enough its sums are halved; a larger line is cut into its halves and what is left of them, and each
+// part is transformed.
 use crate::butterfly::line32;
 use crate::stage::store_row;
 ghost use mathlib.Core.Path.{_≡_};
@@ -42,7 +43,8 @@ fn halve(x: &[i32], h: &mut [i32])
 // What x has over twice its halves: 0 or 1.
 fn leave(x: &[i32], h: &[i32], v: &mut [i32])
     requires { ⌜ (length (now h) ≡ length (now x)) × (length (now v) ≡ length (now x)) ⌝ }
-    requires { ⌜ ((i : ℕ) → i < length (now x) → (at (now h) i ≡ half (at (now x) i)) × (natAbs (at (now x) i) ≤ 2 ^ 29)) ⌝ }
+    requires { ⌜ ((i : ℕ) → i < length (now x) → (at (now h) i ≡ half (at (now x) i))
+        × (natAbs (at (now x) i) ≤ 2 ^ 29)) ⌝ }
     ensures { λ _. ⌜ ((i : ℕ) → i < length (now (x .entry)) → at (now (v .exit)) i ≡ over (at (now (x .entry)) i)) ⌝ }
 {
     let n = x.len();
@@ -58,7 +60,8 @@ fn leave(x: &[i32], h: &[i32], v: &mut [i32])
 fn join(p: &[i32], q: &[i32], row: &mut [i32])
     requires { ⌜ (length (now q) ≡ length (now p)) × (length (now row) ≡ length (now p)) ⌝ }
     requires { ⌜ ((i : ℕ) → i < length (now p) → natAbs (at (now p) i) + natAbs (at (now q) i) < 2 ^ 31) ⌝ }
-    ensures { λ _. ⌜ ((i : ℕ) → i < length (now (p .entry)) → at (now (row .exit)) i ≡ at (now (p .entry)) i +ℤ half (at (now (q .entry)) i)) ⌝ }
+    ensures { λ _. ⌜ ((i : ℕ) → i < length (now (p .entry))
+        → at (now (row .exit)) i ≡ at (now (p .entry)) i +ℤ half (at (now (q .entry)) i)) ⌝ }
 {
     let n = p.len();
     let mut i: usize = 0;
@@ -78,7 +81,8 @@ fn small_line(
     x: &[i32],
     row: &mut [i32],
 )
-    requires { ⌜ (length (now x) ≡ 32) × (length (now row) ≡ 32) × ((i : ℕ) → i < 32 → natAbs (at (now x) i) ≤ 1047552) ⌝ }
+    requires { ⌜ (length (now x) ≡ 32) × (length (now row) ≡ 32)
+        × ((i : ℕ) → i < 32 → natAbs (at (now x) i) ≤ 1047552) ⌝ }
     requires { ⌜ (now t16 ≡ oddRows 16) × (now t8 ≡ oddRows 8) × (now t4 ≡ oddRows 4) × (now t2 ≡ oddRows 2) ⌝ }
     ensures { λ _. ⌜ ((k : ℕ) → k < 32 → at (now (row .exit)) (place 5 k) ≡ half (lineAt 32 (now (x .entry)) k)) ⌝ }
 {
@@ -95,7 +99,8 @@ fn large_line(
     x: &[i32],
     row: &mut [i32],
 )
-    requires { ⌜ (length (now x) ≡ 32) × (length (now row) ≡ 32) × ((i : ℕ) → i < 32 → natAbs (at (now x) i) ≤ 2095104) ⌝ }
+    requires { ⌜ (length (now x) ≡ 32) × (length (now row) ≡ 32)
+        × ((i : ℕ) → i < 32 → natAbs (at (now x) i) ≤ 2095104) ⌝ }
     requires { ⌜ (now t16 ≡ oddRows 16) × (now t8 ≡ oddRows 8) × (now t4 ≡ oddRows 4) × (now t2 ≡ oddRows 2) ⌝ }
     ensures { λ _. ⌜ ((k : ℕ) → k < 32 → at (now (row .exit)) (place 5 k) ≡ half (lineAt 32 (now (x .entry)) k)) ⌝ }
 {
@@ -118,7 +123,8 @@ fn half_line(
     x: &[i32],
     row: &mut [i32],
 )
-    requires { ⌜ (length (now x) ≡ 32) × (length (now row) ≡ 32) × ((i : ℕ) → i < 32 → natAbs (at (now x) i) ≤ 2095104) ⌝ }
+    requires { ⌜ (length (now x) ≡ 32) × (length (now row) ≡ 32)
+        × ((i : ℕ) → i < 32 → natAbs (at (now x) i) ≤ 2095104) ⌝ }
     requires { ⌜ (now t16 ≡ oddRows 16) × (now t8 ≡ oddRows 8) × (now t4 ≡ oddRows 4) × (now t2 ≡ oddRows 2) ⌝ }
     ensures { λ _. ⌜ ((k : ℕ) → k < 32 → at (now (row .exit)) (place 5 k) ≡ half (lineAt 32 (now (x .entry)) k)) ⌝ }
 {
@@ -131,7 +137,8 @@ fn half_line(
 
 // The halves of the coefficients of 32 lines, each down its own column.
 pub fn half_stage(src: &[i32], dst: &mut [i32])
-    requires { ⌜ (length (now src) ≡ 1024) × (length (now dst) ≡ 1024) × ((i : ℕ) → i < 1024 → natAbs (at (now src) i) ≤ 2095104) ⌝ }
+    requires { ⌜ (length (now src) ≡ 1024) × (length (now dst) ≡ 1024)
+        × ((i : ℕ) → i < 1024 → natAbs (at (now src) i) ≤ 2095104) ⌝ }
     ensures { λ _. ⌜ Staged half 5 32 (now (src .entry)) (now (dst .exit)) 32 ⌝ }
 {
     let t16 = tables::odd_rows::odd_16();

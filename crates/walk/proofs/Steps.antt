@@ -1,6 +1,6 @@
--- The loop of the walk over magnitudes that are kept by rows: its totals are the walk's over the places passed, its magnitudes those
--- walked, and no total passes 2^62. A place where nothing is kept has m = 0, and is passed; behind the last place where something
--- is kept the walk may stop. Assumes nothing.
+-- The loop of the walk over magnitudes that are kept by rows: its totals are the walk's over the places passed, its
+-- magnitudes those walked, and no total passes 2^62. A place where nothing is kept has m = 0, and is passed; behind the
+-- last place where something is kept the walk may stop. Assumes nothing.
 use mathlib.Core.Path.{_≡_, refl, sym, ap, subst, _∙_}
 use mathlib.Core.Logic.{_⊎_, inl, inr, ⊎-elim, _≢_}
 use mathlib.Core.Bool.{Bool, true, false, cond, _&&_}
@@ -56,7 +56,8 @@ uncoded-first : (r : Rule) (ps : List ℕ) (i : ℕ) → i < length ps → r .di
 unfolding uncoded
 uncoded-first r ps i h = rw (drop-cons ps i 0 h) (omega arith)
 
-module _ (p : Prices) (g : Scale) (w₀ : Walk) (side : ℕ) (kept held : List ℕ) (sc : Scanned side held) (b : Begins p g w₀ side kept) where
+module _ (p : Prices) (g : Scale) (w₀ : Walk) (side : ℕ) (kept held : List ℕ) (sc : Scanned side held)
+    (b : Begins p g w₀ side kept) where
   abbrev r : Rule
   r = ruleBy p g
 
@@ -88,7 +89,9 @@ module _ (p : Prices) (g : Scale) (w₀ : Walk) (side : ℕ) (kept held : List �
   pub bounded : (n : ℕ) → n ≤ side * side → (total n) .base ≤ 2 ^ 62
   bounded n h =
       let x = walk-within r (2 ^ 48) free 0 (totalsOf w₀) ps n (b .left) .1 in
-      let y : n * (2 ^ 48 + r .more) ≤ 4096 * (2 ^ 48 + 2 ^ 48) = mul-le-mul (let k : n ≤ 4096 = omega (arith, sc .few) in k) (let k : 2 ^ 48 + r .more ≤ 2 ^ 48 + 2 ^ 48 = omega (arith, more-small) in k) in
+      let y : n * (2 ^ 48 + r .more) ≤ 4096 * (2 ^ 48 + 2 ^ 48) =
+      mul-le-mul (let k : n ≤ 4096 = omega (arith, sc .few) in k)
+      (let k : 2 ^ 48 + r .more ≤ 2 ^ 48 + 2 ^ 48 = omega (arith, more-small) in k) in
       omega (arith, b .base)
 
   by-dist : (L : ℕ) → r .dist L 0 ≡ distortion (g .shift) (g .error) L 0
@@ -99,15 +102,23 @@ module _ (p : Prices) (g : Scale) (w₀ : Walk) (side : ℕ) (kept held : List �
   enough n h =
       let x = walk-within r (2 ^ 48) free 0 (totalsOf w₀) ps n (b .left) .0 in
       let y = uncoded-first r ps n (omega (arith, places-count side held sc g kept)) in
-      omega (arith, by-dist (getD ps n 0), ap (λ (L : ℕ). distortion (g .shift) (g .error) L 0) (place-at side held sc g kept n h))
+      omega (
+        arith,
+        by-dist (getD ps n 0),
+        ap (λ (L : ℕ). distortion (g .shift) (g .error) L 0)
+            (place-at side held sc g kept n h),
+      )
 
   level-at : (n : ℕ) → n < side * side → (total (n + 1)) .prev ≡ getD ls n 0
-  level-at n h = ap (λ (k : ℕ). (total k) .prev) (add-one n) ∙ one-pass-level r 0 (totalsOf w₀) ps n (omega (arith, places-count side held sc g kept))
+  level-at n h =
+      ap (λ (k : ℕ). (total k) .prev) (add-one n)
+      ∙ one-pass-level r 0 (totalsOf w₀) ps n (omega (arith, places-count side held sc g kept))
 
   level-below : (n : ℕ) → n < side * side → getD ls n 0 ≤ magnitude (g .shift) (keptAt side kept n * g .q)
   unfolding ruleBy
   level-below n h =
-      let a = allowed-below _ _ (walked-cheapest r (isZero (w₀ .prev)) ps n (omega (arith, places-count side held sc g kept)) .allowed) in
+      let a = allowed-below _ _
+      (walked-cheapest r (isZero (w₀ .prev)) ps n (omega (arith, places-count side held sc g kept)) .allowed) in
       omega (arith, ap (magnitude (g .shift)) (place-at side held sc g kept n h))
 
   level-small : (n : ℕ) → n < side * side → getD ls n 0 ≤ 32767
@@ -123,7 +134,8 @@ module _ (p : Prices) (g : Scale) (w₀ : Walk) (side : ℕ) (kept held : List �
     pub tail : (k : ℕ) → end ≤ k → k < n → getD ls k 0 ≡ 0
     pub rest : left ≡ keptFrom side kept n
 
-  pub begun : (levels : List ℕ) (left : ℕ) → length levels ≡ side * side → Cleared levels → left ≡ nonzeros kept → Walking levels w₀ 0 left 0
+  pub begun : (levels : List ℕ) (left : ℕ) → length levels ≡ side * side → Cleared levels → left ≡ nonzeros kept
+      → Walking levels w₀ 0 left 0
   unfolding walk
   begun levels left e z q =
       record {
@@ -164,11 +176,16 @@ module _ (p : Prices) (g : Scale) (w₀ : Walk) (side : ℕ) (kept held : List �
     rest-next : left ≡ ones (keptAt side kept n) + keptFrom side kept (n + 1)
     rest-next = i .rest ∙ kept-next side kept held sc n h
 
-    pub passes : (v : Walk) → keptAt side kept n ≡ 0 → totalsOf v ≡ passed p (totalsOf w) → Walking levels v end left (n + 1)
+    pub passes : (v : Walk) → keptAt side kept n ≡ 0 → totalsOf v ≡ passed p (totalsOf w)
+        → Walking levels v end left (n + 1)
     passes v e q =
         let s : totalsOf v ≡ total (n + 1) =
-        q ∙ ap (passed p) (i .same) ∙ sym (next n h ∙ quiet p g n (total n) (keptAt side kept n * g .q) (nothing-there g (b .weighable .sound) (keptAt side kept n) e) (enough n h)) in
-        let l : getD ls n 0 ≡ 0 = sym (level-at n h) ∙ sym (ap (λ (t : Totals). t .prev) s) ∙ ap (λ (t : Totals). t .prev) q in
+        q ∙ ap (passed p) (i .same)
+        ∙ sym (next n h
+        ∙ quiet p g n (total n) (keptAt side kept n * g .q)
+        (nothing-there g (b .weighable .sound) (keptAt side kept n) e) (enough n h)) in
+        let l : getD ls n 0 ≡ 0 = sym (level-at n h) ∙ sym (ap (λ (t : Totals). t .prev) s)
+        ∙ ap (λ (t : Totals). t .prev) q in
         record {
           place = omega arith;
           room = i .room;
@@ -207,13 +224,17 @@ module _ (p : Prices) (g : Scale) (w₀ : Walk) (side : ℕ) (kept held : List �
           ended-by zero f = omega (arith, i .ended)
           ended-by (suc a) f = omega arith
 
-          tail-by : (a : ℕ) → e ≡ cond (isZero a) end (n + 1) → a ≡ getD ls n 0 → (k : ℕ) → e ≤ k → k < n + 1 → getD ls k 0 ≡ 0
+          tail-by : (a : ℕ) → e ≡ cond (isZero a) end (n + 1) → a ≡ getD ls n 0 → (k : ℕ) → e ≤ k → k < n + 1
+              → getD ls k 0 ≡ 0
           tail-by zero f t k m lt =
-              below-next (λ (k : ℕ). end ≤ k → getD ls k 0 ≡ 0) (λ j lt le. i .tail j le lt) (λ le. sym t) k lt (omega arith)
+              below-next (λ (k : ℕ). end ≤ k → getD ls k 0 ≡ 0) (λ j lt le. i .tail j le lt) (λ le. sym t) k lt
+              (omega arith)
           tail-by (suc a) f t k m lt = absurd (let z : ⊥ = omega arith in z)
 
   behind-none : (k : ℕ) → side * side ≤ k → getD ls k 0 ≡ 0
-  behind-none k h = lib.ListN.List·getD-eq-default ls 0 (omega (arith, length-walked r (isZero (w₀ .prev)) ps, places-count side held sc g kept))
+  behind-none k h =
+      lib.ListN.List·getD-eq-default ls 0
+      (omega (arith, length-walked r (isZero (w₀ .prev)) ps, places-count side held sc g kept))
 
   -- no place is left to step at: nothing is kept from n on
   module _ (levels : List ℕ) (w : Walk) (end left n : ℕ) (i : Walking levels w end left n) (none : left ≡ 0) where
@@ -222,7 +243,11 @@ module _ (p : Prices) (g : Scale) (w₀ : Walk) (side : ℕ) (kept held : List �
 
     none-walked : (k : ℕ) → n ≤ k → getD ls k 0 ≡ 0
     none-walked k m =
-        ⊎-elim (λ (lt : k < side * side). omega (arith, level-below k lt, nothing-there g (b .weighable .sound) (keptAt side kept k) (none-there k m lt)))
+        ⊎-elim (λ (lt : k < side * side). omega (
+          arith,
+          level-below k lt,
+          nothing-there g (b .weighable .sound) (keptAt side kept k) (none-there k m lt),
+        ))
         (λ (le : side * side ≤ k). behind-none k le)
         (below-or-not k (side * side))
 
@@ -230,7 +255,8 @@ module _ (p : Prices) (g : Scale) (w₀ : Walk) (side : ℕ) (kept held : List �
     unfolding ruleBy
     quiet-behind k h =
         let lt : n + k < side * side = omega (arith, length-drop n ps, places-count side held sc g kept) in
-        ap (r .top) (getD-drop n ps k 0 ∙ place-at side held sc g kept (n + k) lt) ∙ nothing-there g (b .weighable .sound) (keptAt side kept (n + k)) (none-there (n + k) (omega arith) lt)
+        ap (r .top) (getD-drop n ps k 0 ∙ place-at side held sc g kept (n + k) lt)
+        ∙ nothing-there g (b .weighable .sound) (keptAt side kept (n + k)) (none-there (n + k) (omega arith) lt)
 
     stopped : (walk r 0 (totalsOf w₀) ps .best ≡ total n .best) × (walk r 0 (totalsOf w₀) ps .cut ≡ total n .cut)
     stopped = rw (← walk-parts r 0 (totalsOf w₀) ps n) (quiet-walk r (0 + n) (total n) (drop n ps) quiet-behind)
@@ -257,9 +283,11 @@ cut-at c [] k = none (ltb k c)
 cut-at zero (a ∷ ls) zero = refl
 cut-at zero (a ∷ ls) (suc k) = cut-at zero ls k ∙ rw (le-ltb k 0 (omega arith), le-ltb (suc k) 0 (omega arith))
 cut-at (suc c) (a ∷ ls) zero = rw (lt-ltb 0 (suc c) (omega arith))
-cut-at (suc c) (a ∷ ls) (suc k) = cut-at c ls k ∙ ap (λ (t : Bool). cond t (getD ls k 0) 0) (sym (leb·suc-suc (suc k) c))
+cut-at (suc c) (a ∷ ls) (suc k) =
+    cut-at c ls k ∙ ap (λ (t : Bool). cond t (getD ls k 0) 0) (sym (leb·suc-suc (suc k) c))
 
-cut-levels : (side cut end : ℕ) (ls before after : List ℕ) → Standing side before ls → ((k : ℕ) → end ≤ k → getD ls k 0 ≡ 0)
+cut-levels : (side cut end : ℕ) (ls before after : List ℕ) → Standing side before ls
+    → ((k : ℕ) → end ≤ k → getD ls k 0 ≡ 0)
     → CutBehind side cut end before after → Standing side after (cutAt cut ls)
 cut-levels side cut end ls before after s t c k h =
     c .levels k h ∙ go ∙ sym (cut-at cut ls k)
@@ -267,13 +295,15 @@ cut-levels side cut end ls before after s t c k h =
     old : getD before (scanAt side side k) 0 ≡ getD ls k 0
     old = s k h
 
-    go : cond (leb cut k && ltb k (max cut end)) 0 (getD before (scanAt side side k) 0) ≡ cond (ltb k cut) (getD ls k 0) 0
+    go : cond (leb cut k && ltb k (max cut end)) 0 (getD before (scanAt side side k) 0)
+        ≡ cond (ltb k cut) (getD ls k 0) 0
     go =
         ⊎-elim
         (λ (q : k < cut). rw (lt-leb cut k q, lt-ltb k cut q) old)
         (λ (q : cut ≤ k).
         ⊎-elim (λ (m : k < max cut end). rw (le-leb cut k q, lt-ltb k (max cut end) m, le-ltb k cut q))
-        (λ (m : max cut end ≤ k). rw (le-leb cut k q, le-ltb k (max cut end) m, le-ltb k cut q) (old ∙ t k (omega arith)))
+        (λ (m : max cut end ≤ k). rw (le-leb cut k q, le-ltb k (max cut end) m, le-ltb k cut q) (old
+        ∙ t k (omega arith)))
         (below-or-not k (max cut end)))
         (below-or-not k cut)
 
@@ -296,7 +326,8 @@ module _ (side cut : ℕ) (held : List ℕ) (sc : Scanned side held) (before : L
   cut-none e = record { room = e; levels = λ k h. sym (none k (ltb k cut) refl) }
     where
       none : (k : ℕ) (t : Bool) → ltb k cut ≡ t
-          → cond (leb cut k && ltb k (max cut cut)) 0 (getD before (scanAt side side k) 0) ≡ getD before (scanAt side side k) 0
+          → cond (leb cut k && ltb k (max cut cut)) 0 (getD before (scanAt side side k) 0)
+          ≡ getD before (scanAt side side k) 0
       none k true e = let q = ltb-true k cut e in rw (lt-leb cut k q)
       none k false e =
           let q = ltb-false k cut e in
@@ -305,7 +336,11 @@ module _ (side cut : ℕ) (held : List ℕ) (sc : Scanned side held) (before : L
   pub cut-more : (n : ℕ) (levels : List ℕ) → cut ≤ n → n < side * side → CutBehind side cut n before levels
       → CutBehind side cut (n + 1) before (set levels (scanAt side side n) 0)
   cut-more n levels le lt c =
-      record { room = length-set levels (scanAt side side n) 0 ∙ c .room; levels = λ k h. ⊎-elim (here k h) (there k h) (same-or-not k n) }
+      record {
+        room = length-set levels (scanAt side side n) 0
+            ∙ c .room;
+        levels = λ k h. ⊎-elim (here k h) (there k h) (same-or-not k n);
+      }
     where
       same-or-not : (k n : ℕ) → (k ≡ n) ⊎ (k ≢ n)
       same-or-not k n = go (eqb k n) refl
@@ -328,7 +363,8 @@ module _ (side cut : ℕ) (held : List ℕ) (sc : Scanned side held) (before : L
       same-test : (k : ℕ) → k ≢ n → ltb k (max cut n) ≡ ltb k (max cut (n + 1))
       same-test k ne =
           ⊎-elim
-          (λ (q : k < max cut n). lt-ltb k (max cut n) q ∙ sym (lt-ltb k (max cut (n + 1)) (let m : k < max cut (n + 1) = omega arith in m)))
+          (λ (q : k < max cut n). lt-ltb k (max cut n) q
+          ∙ sym (lt-ltb k (max cut (n + 1)) (let m : k < max cut (n + 1) = omega arith in m)))
           (λ (q : max cut n ≤ k). le-ltb k (max cut n) q ∙ sym (le-ltb k (max cut (n + 1)) (over-it q)))
           (below-or-not k (max cut n))
         where
@@ -342,7 +378,8 @@ module _ (side cut : ℕ) (held : List ℕ) (sc : Scanned side held) (before : L
           ≡ cond (leb cut k && ltb k (max cut (n + 1))) 0 (getD before (scanAt side side k) 0)
       there k h ne =
           getD-set-other levels (scanAt side side n) (scanAt side side k) 0 0
-          (λ e. ne (scan-apart side side (sc .some) (sc .some) k n (omega (arith, sc .full)) (omega (arith, sc .full)) e))
+          (λ e. ne (scan-apart side side (sc .some) (sc .some) k n (omega (arith, sc .full)) (omega (arith, sc .full))
+          e))
           ∙ c .levels k h
           ∙ ap (λ (t : Bool). cond (leb cut k && t) 0 (getD before (scanAt side side k) 0)) (same-test k ne)
 
@@ -352,5 +389,6 @@ module _ (side cut : ℕ) (held : List ℕ) (sc : Scanned side held) (before : L
       let q : max cut n ≡ max cut end = omega arith in
       record {
         room = c .room;
-        levels = λ k h. c .levels k h ∙ ap (λ (m : ℕ). cond (leb cut k && ltb k m) 0 (getD before (scanAt side side k) 0)) q;
+        levels = λ k h. c .levels k h
+            ∙ ap (λ (m : ℕ). cond (leb cut k && ltb k m) 0 (getD before (scanAt side side k) 0)) q;
       }

@@ -1,5 +1,6 @@
--- The walk's step by one offer: of 0, m and m - 1 the choice is the same when the cheaper of m and m - 1 is weighed against 0, and that
--- cheaper one does not depend on the level before, whose price is in both. A place with m = 0 is passed. Assumes nothing.
+-- The walk's step by one offer: of 0, m and m - 1 the choice is the same when the cheaper of m and m - 1 is weighed
+-- against 0, and that cheaper one does not depend on the level before, whose price is in both. A place with m = 0 is
+-- passed. Assumes nothing.
 use mathlib.Core.Path.{_≡_, refl, sym, ap, _∙_}
 use mathlib.Core.Bool.{Bool, true, false, cond}
 use Prim.Native.Nat.{ℕ, zero, suc, _+_, _-_, _≤_, _<_}
@@ -24,7 +25,8 @@ use Rattle.walk.specs.Walking.{passed}
 other-way : (f : ℕ → ℕ) (m n : ℕ) → cheaper f (cheaper f 0 m) n ≡ cheaper f 0 (cheaper f m n)
 other-way f m n = go (ltb (f m) (f 0)) (ltb (f n) (f m)) refl refl
   where
-    go : (s t : Bool) → ltb (f m) (f 0) ≡ s → ltb (f n) (f m) ≡ t → cheaper f (cheaper f 0 m) n ≡ cheaper f 0 (cheaper f m n)
+    go : (s t : Bool) → ltb (f m) (f 0) ≡ s → ltb (f n) (f m) ≡ t → cheaper f (cheaper f 0 m) n
+        ≡ cheaper f 0 (cheaper f m n)
     go true true a b =
         let p = ltb-true (f m) (f 0) a in
         let q = ltb-true (f n) (f m) b in
@@ -41,7 +43,8 @@ single : (f : ℕ → ℕ) → cheaper f (cheaper f 0 1) 0 ≡ cheaper f 0 1
 single f = go (ltb (f 1) (f 0)) refl
   where
     go : (s : Bool) → ltb (f 1) (f 0) ≡ s → cheaper f (cheaper f 0 1) 0 ≡ cheaper f 0 1
-    go true a = let p = ltb-true (f 1) (f 0) a in rw (by f 0 1 true a, by f 1 0 false (le-ltb (f 0) (f 1) (omega arith)))
+    go true a = let p =
+        ltb-true (f 1) (f 0) a in rw (by f 0 1 true a, by f 1 0 false (le-ltb (f 0) (f 1) (omega arith)))
     go false a = rw (by f 0 1 false a, by f 0 0 false (le-ltb (f 0) (f 0) (omega arith)))
 
 one-of-three : (f g : ℕ → ℕ) (h : ℕ) → ((a : ℕ) → f (suc a) ≡ g (suc a) + h) → (m : ℕ) → 1 ≤ m
@@ -58,11 +61,13 @@ module _ (p : Prices) (g : Scale) where
   chosen-by : (z : Bool) (L : ℕ) → 1 ≤ magnitude (g .shift) L
       → chosen (ruleBy p g) z L ≡ cheaper (cost (ruleBy p g) z L) 0 (offered false p g L)
   unfolding chosen firstLeast ruleBy offered
-  chosen-by z L h = one-of-three (cost (ruleBy p g) z L) (bare p g L) (headPrice p z) (cost-by p g z L) (magnitude (g .shift) L) h
+  chosen-by z L h =
+      one-of-three (cost (ruleBy p g) z L) (bare p g L) (headPrice p z) (cost-by p g z L) (magnitude (g .shift) L) h
 
 -- ---- the step
 module _ (p : Prices) (g : Scale) (n : ℕ) (w : Totals) (L : ℕ) where
-  pub quiet : magnitude (g .shift) L ≡ 0 → distortion (g .shift) (g .error) L 0 ≤ w .base → step (ruleBy p g) n w L ≡ passed p w
+  pub quiet : magnitude (g .shift) L ≡ 0 → distortion (g .shift) (g .error) L 0 ≤ w .base
+      → step (ruleBy p g) n w L ≡ passed p w
   unfolding step advance cost ruleBy rateBy
   quiet e h =
       let z = isZero (w .prev) in
@@ -97,7 +102,8 @@ module _ (p : Prices) (g : Scale) (n : ℕ) (w : Totals) (L : ℕ) where
         let t : ltb (f (v .level)) (f 0) ≡ true = lt-ltb (f (v .level)) (f 0) (rw (at-offer, at-zero) h) in
         chosen-by p g (isZero (w .prev)) L top ∙ rw (sym (o .is)) (by f 0 (v .level) true t)
 
-    pub stays : d + zr ≤ c → d ≤ w .base → record { base = w .base + zr; best = w .best; cut = w .cut; prev = 0 } ≡ step (ruleBy p g) n w L
+    pub stays : d + zr ≤ c → d ≤ w .base → record { base = w .base + zr; best = w .best; cut = w .cut; prev = 0 }
+        ≡ step (ruleBy p g) n w L
     unfolding step advance cost ruleBy rateBy
     stays h b =
         let x = distortion (g .shift) (g .error) L 0 in
@@ -112,7 +118,8 @@ module _ (p : Prices) (g : Scale) (n : ℕ) (w : Totals) (L : ℕ) where
     unfolding ruleBy
     by-last = refl
 
-    pub goes : c < d + zr → advance (ruleBy p g) n w (v .level) (w .base - d + c) (w .base - d + c + p .last) ≡ step (ruleBy p g) n w L
+    pub goes : c < d + zr → advance (ruleBy p g) n w (v .level) (w .base - d + c) (w .base - d + c + p .last)
+        ≡ step (ruleBy p g) n w L
     unfolding step
     goes h =
         let x : (ruleBy p g) .dist L 0 ≡ d = by-dist in
@@ -120,7 +127,8 @@ module _ (p : Prices) (g : Scale) (n : ℕ) (w : Totals) (L : ℕ) where
         rw (takes h, at-offer, x, y)
 
 module _ (r : Rule) (n : ℕ) (w : Totals) (b l : ℕ) where
-  pub moves : (a : ℕ) → 1 ≤ a → l < w .best → record { base = b + r .more; best = l; cut = n + 1; prev = a } ≡ advance r n w a b l
+  pub moves : (a : ℕ) → 1 ≤ a → l < w .best → record { base = b + r .more; best = l; cut = n + 1; prev = a }
+      ≡ advance r n w a b l
   unfolding advance
   moves zero e h = absurd (omega arith)
   moves (suc a) e h = rw (lt-ltb l (w .best) h, add-one n)

@@ -55,7 +55,8 @@ pub record WalkedOver (p : Prices) (g : Scale) (w : Walk) (side : ℕ) (kept aft
 pub record CutBehind (side cut end : ℕ) (before after : List ℕ) : Type 0 where
   pub room : length after ≡ side * side
   pub levels : (k : ℕ) → k < side * side
-      → getD after (scanAt side side k) 0 ≡ cond (leb cut k && ltb k (max cut end)) 0 (getD before (scanAt side side k) 0)
+      → getD after (scanAt side side k) 0
+      ≡ cond (leb cut k && ltb k (max cut end)) 0 (getD before (scanAt side side k) 0)
 
 -- the walk cut where it is cheapest, and its price
 pub record CutOver (p : Prices) (g : Scale) (w : Walk) (side : ℕ) (kept after : List ℕ) (r : ℕ) : Type 0 where
@@ -63,4 +64,5 @@ pub record CutOver (p : Prices) (g : Scale) (w : Walk) (side : ℕ) (kept after 
   pub room : length after ≡ side * side
   pub levels :
       Standing side after
-      (cutAt (walk (ruleBy p g) 0 (totalsOf w) (keptPlaces g side kept) .cut) (walked (ruleBy p g) (isZero (w .prev)) (keptPlaces g side kept)))
+      (cutAt (walk (ruleBy p g) 0 (totalsOf w) (keptPlaces g side kept) .cut)
+      (walked (ruleBy p g) (isZero (w .prev)) (keptPlaces g side kept)))

@@ -1,5 +1,5 @@
-// The walk along the scan, and its cut. A place with m = 0 is passed; at another one offer, m or m - 1, is weighed against 0. The block left
-// and its price are the definition's (specs/Walk.antt of `price`).
+// The walk along the scan, and its cut. A place with m = 0 is passed; at another one offer, m or m - 1, is weighed
+// against 0. The block left and its price are the definition's (specs/Walk.antt of `price`).
 use rule::errors::squared_below;
 use rule::offers::make_offer;
 use rule::prices::Prices;
@@ -19,8 +19,8 @@ ghost use Rattle.rule.specs.Prices.{Modest, ruleBy};
 ghost use Rattle.rule.specs.Places.{Scanned, Cleared};
 ghost use Rattle.walk.specs.Walking.{Ready, Begins, WalkedOver, CutBehind, CutOver, totalsOf, passed};
 
-// The running totals. base: the coded flag, what is walked with its flags, and the uncoded squares behind it; best and cut: the
-// least price of a cut so far, and how many places it keeps; prev: the level before.
+// The running totals. base: the coded flag, what is walked with its flags, and the uncoded squares behind it; best and
+// cut: the least price of a cut so far, and how many places it keeps; prev: the level before.
 pub struct Walk {
     pub base: u64,
     pub best: u64,
@@ -93,7 +93,8 @@ fn end_with(level: u64, n: usize, end: usize) -> usize
     if level == 0 { end } else { n + 1 }
 }
 
-// `count` places have an m above 0. The walk stops behind the last of them: the others change neither the best price nor the cut.
+// `count` places have an m above 0. The walk stops behind the last of them: the others change neither the best price
+// nor the cut.
 fn walk_places(
     kept: &[u16],
     levels: &mut [u16],
@@ -104,7 +105,8 @@ fn walk_places(
     first: Walk,
     count: usize,
 ) -> Walked
-    requires { ⌜ Scanned side (now scan) × Begins p g first side (now kept) × (count ≡ nonzeros (now kept)) × (length (now levels) ≡ side * side) × Cleared (now levels) ⌝ }
+    requires { ⌜ Scanned side (now scan) × Begins p g first side (now kept) × (count ≡ nonzeros (now kept))
+        × (length (now levels) ≡ side * side) × Cleared (now levels) ⌝ }
     ensures { λ r. ⌜ WalkedOver p g first side (now (kept .entry)) (now (levels .exit)) r ⌝ }
 {
     let mut w = first;
@@ -149,7 +151,8 @@ pub fn choose_levels(
     first: Walk,
     count: usize,
 ) -> u64
-    requires { ⌜ Scanned side (now scan) × Begins p g first side (now kept) × (count ≡ nonzeros (now kept)) × (length (now levels) ≡ side * side) × Cleared (now levels) ⌝ }
+    requires { ⌜ Scanned side (now scan) × Begins p g first side (now kept) × (count ≡ nonzeros (now kept))
+        × (length (now levels) ≡ side * side) × Cleared (now levels) ⌝ }
     ensures { λ r. ⌜ CutOver p g first side (now (kept .entry)) (now (levels .exit)) r ⌝ }
 {
     let walked = walk_places(kept, levels, scan, side, p, g, first, count);

@@ -25,16 +25,22 @@ same-length c = search needs
 
 returns : tie.Need-returns
 returns c =
-    let t = c .before .before .before .trans in
-    (ap (λ (a : TransAnswer). transResult (paperOf a)) (sym (c .enum-told .given .1)) ∙ ap transResult (t .ensures .0), t .ensures .1)
+    let t = c .before .before .before .trans in (
+      ap (λ (a : TransAnswer). transResult (paperOf a)) (sym (c .enum-told .given .1))
+          ∙ ap transResult (t .ensures .0),
+      t .ensures .1,
+    )
 
 same-length-2 : tie.Need-same-length-2
 same-length-2 c = search needs
 
 returns-2 : tie.Need-returns-2
 returns-2 c =
-    let t = c .before .before .before .before .before .trans in
-    (c .number .ensures ∙ ap (λ (a : TransAnswer). transResult (paperOf a)) (sym (c .before .before .why .given .1)) ∙ ap transResult (t .ensures .0), t .ensures .1)
+    let t = c .before .before .before .before .before .trans in (
+      c .number .ensures ∙ ap (λ (a : TransAnswer). transResult (paperOf a)) (sym (c .before .before .why .given .1))
+          ∙ ap transResult (t .ensures .0),
+      t .ensures .1,
+    )
 
 pub galemosu-transform-spec : {M : Type 1} → statement M
 galemosu-transform-spec =

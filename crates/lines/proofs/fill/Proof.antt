@@ -1,5 +1,5 @@
--- `lines::fill` meets its contract: what was read before stays, and holds no newline, at each turn. Each turn but the last reads a byte
--- or more, so what is free in the buffer is the measure.
+-- `lines::fill` meets its contract: what was read before stays, and holds no newline, at each turn. Each turn but the
+-- last reads a byte or more, so what is free in the buffer is the measure.
 -- Assumes nothing.
 use mathlib.Core.Path.{_≡_}
 use Prim.Native.Nat.{_-_}
@@ -27,7 +27,8 @@ same-length c = search needs
 
 returns : tie.Need-returns Inv-loop μ-loop
 returns c =
-    still (c .before .before .before .before .before .before .loop .inv .0) (c .before .before .before .read-at .last .0) (search needs)
+    still (c .before .before .before .before .before .before .loop .inv .0)
+    (c .before .before .before .read-at .last .0) (search needs)
     (c .before .before .before .read-at .ensures .1)
 
 add-next : tie.Need-add-next Inv-loop μ-loop

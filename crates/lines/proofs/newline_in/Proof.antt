@@ -29,7 +29,8 @@ loop-less : tie.Need-loop-less Inv-loop μ-loop
 loop-less c = search needs
 
 loop-again : tie.Need-loop-again Inv-loop μ-loop
-loop-again c = (search needs, search needs, below-more _ _ (c .before .before .before .loop .inv .2) (λ _. c .if1 .left))
+loop-again c =
+    (search needs, search needs, below-more _ _ (c .before .before .before .loop .inv .2) (λ _. c .if1 .left))
 
 returns-2 : tie.Need-returns-2 Inv-loop μ-loop
 returns-2 c = search needs

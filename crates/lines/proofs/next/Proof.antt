@@ -28,7 +28,8 @@ read-line-requires : tie.Need-read-line-requires
 read-line-requires c κs = (
   search needs,
   none-moved (c .before .before .before .before .before .before .before .before .before .args .buf .now)
-      (c .before .before .before .shift .last .0) (c .before .before .before .before .before .before .before .before .before .args .c)
+      (c .before .before .before .shift .last .0)
+      (c .before .before .before .before .before .before .before .before .before .args .c)
       (search needs) (c .before .before .before .shift .ensures)
       (λ k l. c .before .before .before .before .before .before .newline-in .ensures .none k (omega arith)),
 )
@@ -38,12 +39,16 @@ same-length-2 c = search needs
 
 returns-2 : tie.Need-returns-2
 returns-2 c =
-    handed-moved (c .before .before .before .before .before .before .before .before .before .before .before .before .args .buf .now)
+    handed-moved (c .before .before .before .before .before .before .before .before .before .before .before .before
+    .args .buf .now)
     (c .before .before .before .before .before .before .shift .last .0)
-    (c .before .before .before .before .before .before .before .before .before .before .before .before .args .c) (search needs)
+    (c .before .before .before .before .before .before .before .before .before .before .before .before .args .c)
+    (search needs)
     (c .before .before .before .before .before .before .shift .ensures)
-    (λ k l. c .before .before .before .before .before .before .before .before .before .newline-in .ensures .none k (omega arith))
-    (c .before .before .read-line .last .0) (c .before .before .read-line .result) (c .before .before .read-line .ensures)
+    (λ k l. c .before .before .before .before .before .before .before .before .before .newline-in .ensures .none k
+    (omega arith))
+    (c .before .before .read-line .last .0) (c .before .before .read-line .result)
+    (c .before .before .read-line .ensures)
 
 pub next-spec : {M : Type 1} → statement M
 next-spec =

@@ -32,7 +32,14 @@ same-length : tie.Need-same-length Inv-loop μ-loop
 same-length c = search needs
 
 returns : tie.Need-returns Inv-loop μ-loop
-returns c = record { left = search needs; next = inl (c .before .newline-in .result, refl, c .before .newline-in .ensures) }
+returns c = record {
+  left = search needs;
+  next = inl (
+    c .before .newline-in .result,
+    refl,
+    c .before .newline-in .ensures,
+  );
+}
 
 start-requires : tie.Need-start-requires Inv-loop μ-loop
 start-requires c κs = search needs

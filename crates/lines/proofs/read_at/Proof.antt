@@ -37,7 +37,8 @@ same-length c = search needs
 returns : tie.Need-returns
 returns c = (
   search needs,
-  let h : c .before .before .before .before .before .before .before .before .args .at ≤ length (c .before .before .before .before .before .before .before .before .args .buf .now)
+  let h : c .before .before .before .before .before .before .before .before .args .at
+      ≤ length (c .before .before .before .before .before .before .before .before .args .buf .now)
       = search needs in
       rw take-put,
 )

@@ -36,7 +36,8 @@ same-length-4 : tie.Need-same-length-4
 same-length-4 c = search needs
 
 returns-4 : tie.Need-returns-4
-returns-4 c = last-read _ _ _ _ _ (c .before .before .before .before .before .fill .ensures) (search needs) (search needs)
+returns-4 c =
+    last-read _ _ _ _ _ (c .before .before .before .before .before .fill .ensures) (search needs) (search needs)
 
 pub read-line-spec : {M : Type 1} → statement M
 read-line-spec =

@@ -10,7 +10,8 @@ use Rattle.lines.proofs.shift.Statement.{statement}
 use Rattle.lines.proofs.shift.Tie as tie
 
 abbrev Inv-loop : tie.InvT-loop
-Inv-loop buf₀ from have n i₀ buf i = (n ≡ have - from) × (i ≤ n) × (length buf ≡ length buf₀) × (buf ≡ moved buf₀ from i)
+Inv-loop buf₀ from have n i₀ buf i =
+    (n ≡ have - from) × (i ≤ n) × (length buf ≡ length buf₀) × (buf ≡ moved buf₀ from i)
 
 abbrev μ-loop : tie.MeasureT-loop
 μ-loop buf₀ from have n i₀ buf i = n - i
@@ -42,7 +43,8 @@ loop-again c = (
   search needs,
   search needs,
   rw (c .before .before .loop .inv .3)
-      (moved-on (c .before .before .before .args .buf .now) (c .before .before .before .args .from) (c .before .before .loop .i) (omega arith)),
+      (moved-on (c .before .before .before .args .buf .now) (c .before .before .before .args .from)
+      (c .before .before .loop .i) (omega arith)),
 )
 
 same-length : tie.Need-same-length Inv-loop μ-loop
@@ -52,7 +54,8 @@ returns : tie.Need-returns Inv-loop μ-loop
 returns c =
     let e : c .before .loop .i ≡ c .before .before .args .have - c .before .before .args .from = omega arith in
     rw (c .before .loop .inv .3, e)
-    (moved-all (c .before .before .args .buf .now) (c .before .before .args .from) (c .before .before .args .have) (search needs) (search needs))
+    (moved-all (c .before .before .args .buf .now) (c .before .before .args .from) (c .before .before .args .have)
+    (search needs) (search needs))
 
 pub shift-spec : {M : Type 1} → statement M
 shift-spec =

@@ -23,18 +23,29 @@ joined true b c d = refl
 joined false true c d = refl
 joined false false c d = refl
 
-two : (c : tie.Joined1) → c .if1 .if2 ≡ (c .before .before .before .before .before .before .before .some-dear .result || c .before .before .before .before .before .some-dear2 .result)
+two : (c : tie.Joined1) → c .if1 .if2 ≡ (c .before .before .before .before .before .before .before .some-dear .result
+    || c .before .before .before .before .before .some-dear2 .result)
 two c = ⊎-elim (λ w. came-true _ _ _ (w .0 .taken) (w .1)) (λ w. came-false _ _ _ (w .0 .left) (w .1)) (c .if1 .came)
 
 three : (c : tie.Joined2) → c .if2 .if3 ≡ (c .before .if1 .if2 || c .before .before .before .before .some-dear3 .result)
 three c = ⊎-elim (λ w. came-true _ _ _ (w .0 .taken) (w .1)) (λ w. came-false _ _ _ (w .0 .left) (w .1)) (c .if2 .came)
 
-all : (c : tie.Joined2) → (c .if2 .if3 || c .before .before .some-dear4 .result) ≡ costRefused (c .before .before .before .before .before .before .before .before .before .before .before .before .before .before .args .t)
+all : (c : tie.Joined2) → (c .if2 .if3 || c .before .before .some-dear4 .result)
+    ≡ costRefused (c .before .before .before .before .before .before .before .before .before .before .before .before
+    .before .before .args .t)
 unfolding costRefused
 all c =
     let j = c .before .before in
-    let t = j .before .before .before .before .before .before .before .before .before .before .before .before .args .t in
-    rw (three c, two (c .before), j .before .before .before .before .before .before .some-dear .ensures, j .before .before .before .before .some-dear2 .ensures, j .before .before .some-dear3 .ensures, j .some-dear4 .ensures)
+    let t = j .before .before .before .before .before .before .before .before .before .before .before .before .args
+    .t in
+    rw (
+      three c,
+      two (c .before),
+      j .before .before .before .before .before .before .some-dear .ensures,
+      j .before .before .before .before .some-dear2 .ensures,
+      j .before .before .some-dear3 .ensures,
+      j .some-dear4 .ensures,
+    )
     (joined (some dear (t .run)) (some dear (t .level)) (some dear (t .last)) (some dear (t .cbf)))
 
 slice-aggregate-some-dear : tie.Need-slice-aggregate-some-dear

@@ -14,7 +14,8 @@ use Rattle.price.proofs.some_dear.Statement.{statement}
 use Rattle.price.proofs.some_dear.Tie as tie
 
 abbrev Inv-loop : tie.InvT-loop
-Inv-loop table found₀ i₀ found i = (i ≤ length table) × ((found || over onOr dear (drop i table)) ≡ over onOr dear table)
+Inv-loop table found₀ i₀ found i =
+    (i ≤ length table) × ((found || over onOr dear (drop i table)) ≡ over onOr dear table)
 
 abbrev μ-loop : tie.MeasureT-loop
 μ-loop table found₀ i₀ found i = length table - i
@@ -48,8 +49,12 @@ loop-again c =
     let l = c .before .before .before .loop in
     let found : c .if1 .found ≡ (l .found || dear (getD table (l .i) 0)) =
     ⊎-elim (λ w. w .1 ∙ or-true (l .found) ∙ ap (λ (t : Bool). l .found || t) (sym (lt-ltb _ _ (w .0 .taken))))
-    (λ w. w .1 ∙ or-false (l .found) ∙ ap (λ (t : Bool). l .found || t) (sym (le-ltb _ _ (w .0 .left)))) (c .if1 .came) in
-    (search needs, rw found (over-next tests dear table (l .i) 0 (l .found) (c .before .before .loop-test .taken) ∙ l .inv .1))
+    (λ w. w .1 ∙ or-false (l .found) ∙ ap (λ (t : Bool). l .found || t) (sym (le-ltb _ _ (w .0 .left))))
+    (c .if1 .came) in (
+      search needs,
+      rw found (over-next tests dear table (l .i) 0 (l .found) (c .before .before .loop-test .taken)
+          ∙ l .inv .1),
+    )
 
 returns : tie.Need-returns Inv-loop μ-loop
 returns c =

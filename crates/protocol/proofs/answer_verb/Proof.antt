@@ -39,14 +39,34 @@ returns-2 : tie.Need-returns-2
 returns-2 c = search needs
 
 slice-relend-prefix-answer-call : tie.Need-slice-relend-prefix-answer-call
-slice-relend-prefix-answer-call c = omega (arith, c .before .before .before .before .before .before .before .before .before .before .pre, c .before .before .before .read-count .ensures _ _ (c .before .n .given .1))
+slice-relend-prefix-answer-call c =
+    omega (
+      arith,
+      c .before .before .before .before .before .before .before .before .before .before .pre,
+      c .before .before .before .read-count .ensures _ _ (c .before .n .given .1),
+    )
 
 slice-aggregate-answer-call : tie.Need-slice-aggregate-answer-call
-slice-aggregate-answer-call c = sym (length-take-le _ _ (omega (arith, c .before .before .before .before .before .before .before .before .before .before .before .pre, c .before .before .before .before .read-count .ensures _ _ (c .before .before .n .given .1))))
+slice-aggregate-answer-call c =
+    sym (length-take-le _ _
+    (omega (
+      arith,
+      c .before .before .before .before .before .before .before .before .before .before .before .pre,
+      c .before .before .before .before .read-count .ensures _ _ (c .before .before .n .given .1),
+    )))
 
 answer-call-requires : tie.Need-answer-call-requires
-answer-call-requires c κs =
-    (simp length-take (omega (arith, c .before .before .before .before .before .before .read-count .ensures _ _ (c .before .before .before .before .n .given .1))), c .before .before .before .before .before .before .before .before .before .before .read-head .ensures _ (c .before .before .before .before .before .before .before .before .count .given .1))
+answer-call-requires c κs = (
+  simp length-take
+      (omega (
+        arith,
+        c .before .before .before .before .before .before .read-count .ensures _ _
+            (c .before .before .before .before .n .given .1),
+      )),
+  c .before .before .before .before .before .before .before
+      .before .before .before .read-head .ensures _
+      (c .before .before .before .before .before .before .before .before .count .given .1),
+)
 
 same-length : tie.Need-same-length
 same-length c = search needs

@@ -29,7 +29,8 @@ enum-known-verb c = search needs
 quantise-by-requires : tie.Need-quantise-by-requires
 quantise-by-requires c κs =
     let s = c .before .before .before .before in
-    let of = subst (λ (v : Verb). Limited (kindsOf v) (s .args .fields .now)) (c .before .before .verb .given .1) (s .pre) in
+    let of = subst (λ (v : Verb). Limited (kindsOf v) (s .args .fields .now)) (c .before .before .verb .given .1)
+    (s .pre) in
     of 2 (lit< tt)
 
 of-quantise-requires : tie.Need-of-quantise-requires
@@ -41,7 +42,8 @@ enum-known-verb-2 c = search needs
 request-of-requires : tie.Need-request-of-requires
 request-of-requires c κs =
     let s = c .before .before .before .before in
-    let of = subst (λ (v : Verb). Limited (kindsOf v) (s .args .fields .now)) (c .before .before .verb2 .given .1) (s .pre) in
+    let of = subst (λ (v : Verb). Limited (kindsOf v) (s .args .fields .now)) (c .before .before .verb2 .given .1)
+    (s .pre) in
     (of 1 (lit< tt), of 2 (lit< tt), of 4 (lit< tt), of 6 (lit< tt))
 
 sub-block-tq-requires : tie.Need-sub-block-tq-requires

@@ -15,7 +15,8 @@ returns-2 : tie.Need-returns-2
 returns-2 c =
     let n = c .before .args .log2 in
     simp (le-leb 1 n (omega arith))
-    (⊎-elim (λ (l : 5 < n). simp (lt-ltb 5 n l, lt-leb n 5 l)) (λ (l : n ≤ 5). simp (le-ltb 5 n l, le-leb n 5 l)) (below-or-not 5 n))
+    (⊎-elim (λ (l : 5 < n). simp (lt-ltb 5 n l, lt-leb n 5 l)) (λ (l : n ≤ 5). simp (le-ltb 5 n l, le-leb n 5 l))
+    (below-or-not 5 n))
 
 pub no-side-spec : {M : Type 1} → statement M
 no-side-spec = tie.close (tie.spec returns returns-2)

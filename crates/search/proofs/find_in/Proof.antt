@@ -27,8 +27,14 @@ last-place-requires c κs = search needs
 look-back-requires : tie.Need-look-back-requires
 look-back-requires c κs =
     let s = c .before .before .before .before .before .before .before .before .before .before in
-    let f = s .pre .0 in
-    (f .scan, record { weighable = f .weighable; small = omega (arith, f .left, f .small) }, c .before .before .before .last-place .ensures, s .pre .1, s .pre .2, s .pre .3)
+    let f = s .pre .0 in (
+      f .scan,
+      record { weighable = f .weighable; small = omega (arith, f .left, f .small) },
+      c .before .before .before .last-place .ensures,
+      s .pre .1,
+      s .pre .2,
+      s .pre .3,
+    )
 
 sub-coded : tie.Need-sub-coded
 sub-coded c = search needs
@@ -53,8 +59,16 @@ read-off-requires c κs =
     let level = on .before .before in
     let zero = level .before .before in
     let s = start (back k) in
-    let f = s .pre .0 in
-    (f .scan, ended (back k) .last-place .ensures .within, f .room, f .cleared, zero .after-zero .given ∙ s .pre .1, level .after-level .given ∙ s .pre .2, on .goes-on .given ∙ s .pre .3)
+    let f = s .pre .0 in (
+      f .scan,
+      ended (back k) .last-place .ensures .within,
+      f .room,
+      f .cleared,
+      zero .after-zero .given
+          ∙ s .pre .1,
+      level .after-level .given ∙ s .pre .2,
+      on .goes-on .given ∙ s .pre .3,
+    )
 
 same-length : tie.Need-same-length
 same-length c = search needs
@@ -75,7 +89,8 @@ returns c =
     let s = start b in
     let f = s .pre .0 in
     found-coded _ _ _ _ _ _ _ _ f (b .look-back .result) (b .look-back .ensures .0) (taken .if1 .taken) _
-    (c .before .before .read-off .ensures (s .args .p) (s .args .g) (s .args .kept .now) (f .weighable .sound) (ended b .last-place .ensures) (b .look-back .ensures .1))
+    (c .before .before .read-off .ensures (s .args .p) (s .args .g) (s .args .kept .now) (f .weighable .sound)
+    (ended b .last-place .ensures) (b .look-back .ensures .1))
 
 same-length-5 : tie.Need-same-length-5
 same-length-5 c = search needs

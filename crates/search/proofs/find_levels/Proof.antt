@@ -12,7 +12,8 @@ use Rattle.search.proofs.find_levels.Tie as tie
 room : (s : tie.Start) → length (s .args .kept .now) ≤ 1024
 room s = fits 32 (s .args .side) (s .args .kept .now) (s .pre .0) (s .pre .1 .weighable .room)
 
-part : (s : tie.Start) → length (take {A = ℕ} (length (s .args .kept .now)) (replicate 1024 0)) ≡ length (s .args .kept .now)
+part : (s : tie.Start) → length (take {A = ℕ} (length (s .args .kept .now)) (replicate 1024 0))
+    ≡ length (s .args .kept .now)
 part s = lent 32 (s .args .side) (s .args .kept .now) (s .pre .0) (s .pre .1 .weighable .room)
 
 array-borrow-prefix-after-zero : tie.Need-array-borrow-prefix-after-zero

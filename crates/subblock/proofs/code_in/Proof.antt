@@ -1,5 +1,5 @@
--- `subblock::code_in` meets its contract: the room is a copy of the three stretches, the three components are coded in it, and only what
--- all three left is written back.
+-- `subblock::code_in` meets its contract: the room is a copy of the three stretches, the three components are coded in
+-- it, and only what all three left is written back.
 -- Assumes nothing.
 use mathlib.Core.Path.{sym, subst, _∙_}
 use mathlib.Core.List.{List}
@@ -27,7 +27,8 @@ part-copy-start c = search needs
 part-copy-end : tie.Need-part-copy-end
 part-copy-end c =
     let s = c .before in
-    room-of (s .args .buffer .now) (s .args .q) (s .args .n) (s .pre .sizes) (s .pre .passed .settings) (s .pre .passed .buffer)
+    room-of (s .args .buffer .now) (s .args .q) (s .args .n) (s .pre .sizes) (s .pre .passed .settings)
+    (s .pre .passed .buffer)
 
 copy-requires : tie.Need-copy-requires
 copy-requires c κs = search needs
@@ -37,16 +38,22 @@ code-parts-requires c κs =
     let s = c .before .before .before .before .before .before in
     subst
     (λ (l : List ℤ). AllReady (s .args .q) (s .args .n) l)
-    (sym (front (s .args .buffer .now) _ (s .args .n + s .args .n / 4 + s .args .n / 4) (c .before .before .copy .ensures)))
-    (all-ready (s .args .buffer .now) (s .args .q) (s .args .n) (s .pre .sizes) (s .pre .passed .settings) (s .pre .passed .buffer))
+    (sym (front (s .args .buffer .now) _ (s .args .n + s .args .n / 4 + s .args .n / 4)
+    (c .before .before .copy .ensures)))
+    (all-ready (s .args .buffer .now) (s .args .q) (s .args .n) (s .pre .sizes) (s .pre .passed .settings)
+    (s .pre .passed .buffer))
 
 enum-told : tie.Need-enum-told
 enum-told c = search needs
 
 write-back-requires : tie.Need-write-back-requires
 write-back-requires c κs =
-    let s = c .before .before .before .before .before .before .before .before .before .before .before .before in
-    (s .pre .sizes .small, search needs, room-of (s .args .buffer .now) (s .args .q) (s .args .n) (s .pre .sizes) (s .pre .passed .settings) (s .pre .passed .buffer))
+    let s = c .before .before .before .before .before .before .before .before .before .before .before .before in (
+      s .pre .sizes .small,
+      search needs,
+      room-of (s .args .buffer .now) (s .args .q) (s .args .n) (s .pre .sizes)
+          (s .pre .passed .settings) (s .pre .passed .buffer),
+    )
 
 enum-told-2 : tie.Need-enum-told-2
 enum-told-2 c = search needs
@@ -68,7 +75,9 @@ returns c =
     let p = r .code-parts .ensures in
     let g = c .before .before .before .before .enum-told .given in (
       finished-answer b q n (s .pre .sizes) (s .pre .passed) _ _ _ e p,
-      c .before .write-back .ensures ∙ sym (finished-coded b q n (s .pre .sizes) (s .pre .passed) _ _ _ e p (g .0 .0) (g .0 .1 .0) (g .0 .1 .1 .0) (g .1)),
+      c .before .write-back .ensures
+          ∙ sym (finished-coded b q n (s .pre .sizes) (s .pre .passed) _ _ _ e p (g .0 .0) (g .0 .1 .0) (g .0 .1 .1 .0)
+          (g .1)),
     )
 
 same-length-3 : tie.Need-same-length-3

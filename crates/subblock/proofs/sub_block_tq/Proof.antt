@@ -1,4 +1,5 @@
--- `subblock::sub_block_tq` meets its contract: a fault of the first two groups is the call's refusal, and the rest is coded.
+-- `subblock::sub_block_tq` meets its contract: a fault of the first two groups is the call's refusal, and the rest is
+-- coded.
 -- Assumes nothing.
 use mathlib.Core.Path.{sym, ap, _∙_}
 use Rattle.subblock.specs.Tested.{verdictOf}
@@ -18,7 +19,8 @@ returns : tie.Need-returns
 returns c =
     let t = c .before .before .before in
     let a = t .before .args in
-    settings-refused (a .buffer .now) (a .q) _ _ (sym (t .test-settings .ensures (a .buffer .now)) ∙ ap verdictOf (c .before .first .given .1))
+    settings-refused (a .buffer .now) (a .q) _ _ (sym (t .test-settings .ensures (a .buffer .now))
+    ∙ ap verdictOf (c .before .first .given .1))
 
 enum-told : tie.Need-enum-told
 enum-told c = search needs

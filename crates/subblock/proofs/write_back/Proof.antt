@@ -93,7 +93,8 @@ same-length c = search needs
 returns : tie.Need-returns
 returns c =
     let s = c .before .before .before .before .before .before .before .before .before .before .before .before in
-    written-back (s .args .room .now) (s .args .buffer .now) _ _ _ (s .args .n) (s .args .n / 4) (s .pre .1) (c .before .before .before .before .before .before .before .before .before .copy .ensures)
+    written-back (s .args .room .now) (s .args .buffer .now) _ _ _ (s .args .n) (s .args .n / 4) (s .pre .1)
+    (c .before .before .before .before .before .before .before .before .before .copy .ensures)
     (c .before .before .before .before .before .copy2 .ensures) (c .before .copy3 .ensures)
 
 pub write-back-spec : {M : Type 1} → statement M

@@ -1,5 +1,5 @@
--- `tq::answer_all` meets its contract: what is left of the input stands in the buffer at each turn. The measure is the number of turns that
--- are left.
+-- `tq::answer_all` meets its contract: what is left of the input stands in the buffer at each turn. The measure is the
+-- number of turns that are left.
 -- Assumes nothing.
 use mathlib.Core.Path.{_≡_}
 use lib.ListN.{length}
@@ -31,13 +31,18 @@ enum-known-from : tie.Need-enum-known-from Inv-loop μ-loop
 enum-known-from c = search needs
 
 sub-answer : tie.Need-sub-answer Inv-loop μ-loop
-sub-answer c = (told-at _ _ _ (c .before .from .given .1) (c .before .before .before .before .before .next .ensures)) .order
+sub-answer c =
+    (told-at _ _ _ (c .before .from .given .1) (c .before .before .before .before .before .next .ensures)) .order
 
 part-answer-start : tie.Need-part-answer-start Inv-loop μ-loop
-part-answer-start c = (told-at _ _ _ (c .before .before .from .given .1) (c .before .before .before .before .before .before .next .ensures)) .order
+part-answer-start c =
+    (told-at _ _ _ (c .before .before .from .given .1)
+    (c .before .before .before .before .before .before .next .ensures)) .order
 
 part-answer-end : tie.Need-part-answer-end Inv-loop μ-loop
-part-answer-end c = (told-at _ _ _ (c .before .before .from .given .1) (c .before .before .before .before .before .before .next .ensures)) .held
+part-answer-end c =
+    (told-at _ _ _ (c .before .before .from .given .1)
+    (c .before .before .before .before .before .before .next .ensures)) .held
 
 answer-requires : tie.Need-answer-requires Inv-loop μ-loop
 answer-requires c κs = search needs

@@ -17,7 +17,8 @@ use Rattle.integers.proofs.Some.{none-above}
 use Rattle.refusals.proofs.First.{inside}
 use Rattle.transform.specs.Call.{wild}
 use Rattle.transform.specs.Coefficients.{coefficients}
-use Rattle.transform.proofs.Verdict.{no-width, no-height, too-short, too-wild, no-fault, changed, coefficients-front}
+use Rattle.transform.proofs.Verdict.{no-width, no-height, too-short, too-wild, no-fault, changed}
+use Rattle.transform.proofs.Verdict.{coefficients-front}
 use Rattle.transform.proofs.trans.Statement.{statement}
 use Rattle.transform.proofs.trans.Tie as tie
 
@@ -71,11 +72,13 @@ returns-3 c =
     let r = a .args .block .now in
     let lw = a .args .log2-w in
     let lh = a .args .log2-h in
-    let hw = sym (c .before .before .before .before .before .before .no-side .ensures) ∙ c .before .before .before .before .before .if1 .left in
+    let hw = sym (c .before .before .before .before .before .before .no-side .ensures)
+    ∙ c .before .before .before .before .before .if1 .left in
     let hh = sym (c .before .before .before .before .no-side2 .ensures) ∙ c .before .before .before .if2 .left in
     let n = c .before .before .side .result * c .before .side2 .result in
     let e : n ≡ 2 ^ lw * 2 ^ lh =
-    ap (λ (m : ℕ). m * c .before .side2 .result) (c .before .before .side .ensures .0) ∙ ap (λ (m : ℕ). 2 ^ lw * m) (c .before .side2 .ensures .0) in
+    ap (λ (m : ℕ). m * c .before .side2 .result) (c .before .before .side .ensures .0)
+    ∙ ap (λ (m : ℕ). 2 ^ lw * m) (c .before .side2 .ensures .0) in
     too-short r lw lh hw hh (subst (λ (m : ℕ). ltb (length r) m ≡ true) e (lt-ltb (length r) n (c .if3 .taken)))
 
 slice-reshare-prefix-has-wild : tie.Need-slice-reshare-prefix-has-wild
@@ -89,7 +92,8 @@ slice-aggregate-has-wild c =
     let lh = a .args .log2-h in
     let n = c .before .before .before .side .result * c .before .before .side2 .result in
     let e : n ≡ 2 ^ lw * 2 ^ lh =
-    ap (λ (m : ℕ). m * c .before .before .side2 .result) (c .before .before .before .side .ensures .0) ∙ ap (λ (m : ℕ). 2 ^ lw * m) (c .before .before .side2 .ensures .0) in
+    ap (λ (m : ℕ). m * c .before .before .side2 .result) (c .before .before .before .side .ensures .0)
+    ∙ ap (λ (m : ℕ). 2 ^ lw * m) (c .before .before .side2 .ensures .0) in
     sym (length-take-le n r (c .before .if3 .left))
 
 has-wild-requires : tie.Need-has-wild-requires
@@ -104,12 +108,18 @@ returns-4 c =
     let r = a .args .block .now in
     let lw = a .args .log2-w in
     let lh = a .args .log2-h in
-    let hw = sym (c .before .before .before .before .before .before .before .before .before .no-side .ensures) ∙ c .before .before .before .before .before .before .before .before .if1 .left in
-    let hh = sym (c .before .before .before .before .before .before .before .no-side2 .ensures) ∙ c .before .before .before .before .before .before .if2 .left in
-    let n = c .before .before .before .before .before .side .result * c .before .before .before .before .side2 .result in
+    let hw = sym (c .before .before .before .before .before .before .before .before .before .no-side .ensures)
+    ∙ c .before .before .before .before .before .before .before .before .if1 .left in
+    let hh = sym (c .before .before .before .before .before .before .before .no-side2 .ensures)
+    ∙ c .before .before .before .before .before .before .if2 .left in
+    let n = c .before .before .before .before .before .side .result * c .before .before .before .before .side2
+    .result in
     let e : n ≡ 2 ^ lw * 2 ^ lh =
-    ap (λ (m : ℕ). m * c .before .before .before .before .side2 .result) (c .before .before .before .before .before .side .ensures .0) ∙ ap (λ (m : ℕ). 2 ^ lw * m) (c .before .before .before .before .side2 .ensures .0) in
-    let hl = subst (λ (m : ℕ). ltb (length r) m ≡ false) e (le-ltb (length r) n (c .before .before .before .if3 .left)) in
+    ap (λ (m : ℕ). m * c .before .before .before .before .side2 .result)
+    (c .before .before .before .before .before .side .ensures .0)
+    ∙ ap (λ (m : ℕ). 2 ^ lw * m) (c .before .before .before .before .side2 .ensures .0) in
+    let hl = subst (λ (m : ℕ). ltb (length r) m ≡ false) e
+    (le-ltb (length r) n (c .before .before .before .if3 .left)) in
     let hs = subst (λ (m : ℕ). some wild (take m r) ≡ true) e (sym (c .before .has-wild .ensures) ∙ c .if4 .taken) in
     too-wild r lw lh hw hh hl hs
 
@@ -122,9 +132,12 @@ slice-aggregate-transform c =
     let r = a .args .block .now in
     let lw = a .args .log2-w in
     let lh = a .args .log2-h in
-    let n = c .before .before .before .before .before .before .side .result * c .before .before .before .before .before .side2 .result in
+    let n = c .before .before .before .before .before .before .side .result * c .before .before .before .before .before
+    .side2 .result in
     let e : n ≡ 2 ^ lw * 2 ^ lh =
-    ap (λ (m : ℕ). m * c .before .before .before .before .before .side2 .result) (c .before .before .before .before .before .before .side .ensures .0) ∙ ap (λ (m : ℕ). 2 ^ lw * m) (c .before .before .before .before .before .side2 .ensures .0) in
+    ap (λ (m : ℕ). m * c .before .before .before .before .before .side2 .result)
+    (c .before .before .before .before .before .before .side .ensures .0)
+    ∙ ap (λ (m : ℕ). 2 ^ lw * m) (c .before .before .before .before .before .side2 .ensures .0) in
     sym (length-take-le n r (c .before .before .before .before .if3 .left))
 
 transform-requires : tie.Need-transform-requires
@@ -133,11 +146,16 @@ transform-requires c κs =
     let r = a .args .block .now in
     let lw = a .args .log2-w in
     let lh = a .args .log2-h in
-    let hw = sym (c .before .before .before .before .before .before .before .before .before .before .no-side .ensures) ∙ c .before .before .before .before .before .before .before .before .before .if1 .left in
-    let hh = sym (c .before .before .before .before .before .before .before .before .no-side2 .ensures) ∙ c .before .before .before .before .before .before .before .if2 .left in
-    let n = c .before .before .before .before .before .before .side .result * c .before .before .before .before .before .side2 .result in
+    let hw = sym (c .before .before .before .before .before .before .before .before .before .before .no-side .ensures)
+    ∙ c .before .before .before .before .before .before .before .before .before .if1 .left in
+    let hh = sym (c .before .before .before .before .before .before .before .before .no-side2 .ensures)
+    ∙ c .before .before .before .before .before .before .before .if2 .left in
+    let n = c .before .before .before .before .before .before .side .result * c .before .before .before .before .before
+    .side2 .result in
     let e : n ≡ 2 ^ lw * 2 ^ lh =
-    ap (λ (m : ℕ). m * c .before .before .before .before .before .side2 .result) (c .before .before .before .before .before .before .side .ensures .0) ∙ ap (λ (m : ℕ). 2 ^ lw * m) (c .before .before .before .before .before .side2 .ensures .0) in
+    ap (λ (m : ℕ). m * c .before .before .before .before .before .side2 .result)
+    (c .before .before .before .before .before .before .side .ensures .0)
+    ∙ ap (λ (m : ℕ). 2 ^ lw * m) (c .before .before .before .before .before .side2 .ensures .0) in
     let w = inside 1 5 lw hw in
     let h = inside 1 5 lh hh in (
       (w .0, w .1, h .0, h .1),
@@ -156,16 +174,25 @@ returns-5 c =
     let r = a .args .block .now in
     let lw = a .args .log2-w in
     let lh = a .args .log2-h in
-    let hw = sym (c .before .before .before .before .before .before .before .before .before .before .before .before .no-side .ensures) ∙ c .before .before .before .before .before .before .before .before .before .before .before .if1 .left in
-    let hh = sym (c .before .before .before .before .before .before .before .before .before .before .no-side2 .ensures) ∙ c .before .before .before .before .before .before .before .before .before .if2 .left in
-    let n = c .before .before .before .before .before .before .before .before .side .result * c .before .before .before .before .before .before .before .side2 .result in
+    let hw = sym (c .before .before .before .before .before .before .before .before .before .before .before .before
+    .no-side .ensures) ∙ c .before .before .before .before .before .before .before .before .before .before .before
+    .if1 .left in
+    let hh = sym (c .before .before .before .before .before .before .before .before .before .before .no-side2 .ensures)
+    ∙ c .before .before .before .before .before .before .before .before .before .if2 .left in
+    let n = c .before .before .before .before .before .before .before .before .side .result * c .before .before .before
+    .before .before .before .before .side2 .result in
     let e : n ≡ 2 ^ lw * 2 ^ lh =
-    ap (λ (m : ℕ). m * c .before .before .before .before .before .before .before .side2 .result) (c .before .before .before .before .before .before .before .before .side .ensures .0) ∙ ap (λ (m : ℕ). 2 ^ lw * m) (c .before .before .before .before .before .before .before .side2 .ensures .0) in
-    let hl = subst (λ (m : ℕ). ltb (length r) m ≡ false) e (le-ltb (length r) n (c .before .before .before .before .before .before .if3 .left)) in
-    let hs = subst (λ (m : ℕ). some wild (take m r) ≡ false) e (sym (c .before .before .before .before .has-wild .ensures) ∙ c .before .before .before .if4 .left) in
+    ap (λ (m : ℕ). m * c .before .before .before .before .before .before .before .side2 .result)
+    (c .before .before .before .before .before .before .before .before .side .ensures .0)
+    ∙ ap (λ (m : ℕ). 2 ^ lw * m) (c .before .before .before .before .before .before .before .side2 .ensures .0) in
+    let hl = subst (λ (m : ℕ). ltb (length r) m ≡ false) e
+    (le-ltb (length r) n (c .before .before .before .before .before .before .if3 .left)) in
+    let hs = subst (λ (m : ℕ). some wild (take m r) ≡ false) e
+    (sym (c .before .before .before .before .has-wild .ensures) ∙ c .before .before .before .if4 .left) in
     let yes = no-fault r lw lh hw hh hl hs in (
       yes,
-      ap (λ (l : List ℤ). l ++ drop n r) (c .before .transform .ensures ∙ ap (λ (m : ℕ). coefficients (take m r) lw lh) e ∙ coefficients-front r lw lh)
+      ap (λ (l : List ℤ). l ++ drop n r) (c .before .transform .ensures
+          ∙ ap (λ (m : ℕ). coefficients (take m r) lw lh) e ∙ coefficients-front r lw lh)
           ∙ ap (λ (m : ℕ). coefficients r lw lh ++ drop m r) e
           ∙ changed r lw lh yes,
     )

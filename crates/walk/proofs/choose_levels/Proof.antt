@@ -15,7 +15,8 @@ same-length : tie.Need-same-length
 same-length c = search needs
 
 returns : tie.Need-returns
-returns c = cut-over _ _ _ _ _ _ _ _ (c .before .before .before .before .before .before .before .walk-places .ensures) (c .before .before .cut-behind .ensures)
+returns c = cut-over _ _ _ _ _ _ _ _ (c .before .before .before .before .before .before .before .walk-places .ensures)
+    (c .before .before .cut-behind .ensures)
 
 pub choose-levels-spec : {M : Type 1} → statement M
 choose-levels-spec = tie.close (tie.spec walk-places-requires cut-behind-requires same-length returns)

@@ -20,8 +20,12 @@ abbrev μ-loop : tie.MeasureT-loop
 
 loop-holds : tie.Need-loop-holds Inv-loop μ-loop
 loop-holds c =
-    let s = c .before .before in
-    (omega arith, omega arith, cut-none (s .args .side) (s .args .cut) (s .args .scan .now) (s .pre .0) (s .args .levels .now) (s .pre .1))
+    let s = c .before .before in (
+      omega arith,
+      omega arith,
+      cut-none (s .args .side) (s .args .cut) (s .args .scan .now) (s .pre .0)
+          (s .args .levels .now) (s .pre .1),
+    )
 
 scan-place-requires : tie.Need-scan-place-requires Inv-loop μ-loop
 scan-place-requires c κs = let h = c .before .before .before .before .before .pre in omega (arith, h .2, h .0 .few)
@@ -38,7 +42,8 @@ block-place-requires c κs =
     )
 
 put-magnitude-requires : tie.Need-put-magnitude-requires Inv-loop μ-loop
-put-magnitude-requires c κs = omega (arith, c .block-place .ensures .1, c .before .before .before .before .loop .inv .2 .room)
+put-magnitude-requires c κs =
+    omega (arith, c .block-place .ensures .1, c .before .before .before .before .loop .inv .2 .room)
 
 add-n : tie.Need-add-n Inv-loop μ-loop
 add-n c = search needs
@@ -58,7 +63,8 @@ loop-again c =
     ∙ ap (scanAt (s .args .side) (s .args .side)) (c .before .before .before .before .scan-place .ensures .0)) in (
       omega arith,
       omega arith,
-      rw put (cut-more (s .args .side) (s .args .cut) (s .args .scan .now) (s .pre .0) (s .args .levels .now) (l .n) (l .levels) (l .inv .0) (omega (arith, s .pre .2)) (l .inv .2)),
+      rw put (cut-more (s .args .side) (s .args .cut) (s .args .scan .now) (s .pre .0) (s .args .levels .now) (l .n)
+          (l .levels) (l .inv .0) (omega (arith, s .pre .2)) (l .inv .2)),
     )
 
 same-length : tie.Need-same-length Inv-loop μ-loop
@@ -68,7 +74,8 @@ returns : tie.Need-returns Inv-loop μ-loop
 returns c =
     let s = c .before .before .before .before in
     let l = c .before .loop in
-    cut-done (s .args .side) (s .args .cut) (s .args .scan .now) (s .pre .0) (s .args .levels .now) (l .n) (s .args .end) (l .levels)
+    cut-done (s .args .side) (s .args .cut) (s .args .scan .now) (s .pre .0) (s .args .levels .now) (l .n)
+    (s .args .end) (l .levels)
     (omega arith) (l .inv .0) (l .inv .2)
 
 pub cut-behind-spec : {M : Type 1} → statement M

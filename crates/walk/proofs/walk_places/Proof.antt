@@ -41,15 +41,21 @@ scanned c = scanAt (start c .args .side) (start c .args .side) (c .before .loop 
 inside-n : (c : Turn) → c .before .loop .n < start c .args .side * start c .args .side
 inside-n c =
     let l = c .before .loop in
-    going _ _ _ _ _ _ (l .inv .0) (l .inv .1) (l .levels) (l .w) (l .end) (l .left) (l .n) (l .inv .2) (omega (arith, c .loop-test .taken))
+    going _ _ _ _ _ _ (l .inv .0) (l .inv .1) (l .levels) (l .w) (l .end) (l .left) (l .n) (l .inv .2)
+    (omega (arith, c .loop-test .taken))
 
 long : (c : Turn) → length (start c .args .scan .now) ≡ start c .args .side * start c .args .side
 long c = let sc = c .before .loop .inv .0 in ap length (sc .is) ∙ sc .full
 
 loop-holds : tie.Need-loop-holds Inv-loop μ-loop
 loop-holds c =
-    let s = c .before .before .before in
-    (s .pre .0, s .pre .1, begun (s .args .p) (s .args .g) (s .args .first) (s .args .side) (s .args .kept .now) (s .args .scan .now) (s .pre .0) (s .pre .1) (s .args .levels .now) (s .args .count) (s .pre .3) (s .pre .4) (s .pre .2))
+    let s = c .before .before .before in (
+      s .pre .0,
+      s .pre .1,
+      begun (s .args .p) (s .args .g) (s .args .first) (s .args .side) (s .args .kept .now)
+          (s .args .scan .now) (s .pre .0) (s .pre .1) (s .args .levels .now) (s .args .count) (s .pre .3) (s .pre .4)
+          (s .pre .2),
+    )
 
 scan-place-requires : tie.Need-scan-place-requires Inv-loop μ-loop
 scan-place-requires c κs = omega (arith, inside-n c, c .before .loop .inv .0 .few)
@@ -65,7 +71,8 @@ block-place-requires c κs =
     )
 
 magnitude-at-requires : tie.Need-magnitude-at-requires Inv-loop μ-loop
-magnitude-at-requires c κs = omega (arith, c .block-place .ensures .1, c .before .before .before .loop .inv .1 .weighable .room)
+magnitude-at-requires c κs =
+    omega (arith, c .block-place .ensures .1, c .before .before .before .loop .inv .1 .weighable .room)
 
 -- the place, and what is kept for it
 place-is : (c : tie.After-block-place Inv-loop μ-loop) → c .block-place .result .0 ≡ scanned (c .before .before)
@@ -79,8 +86,11 @@ kept-is c = c .magnitude-at .ensures ∙ ap (λ (k : ℕ). getD (start (turn c) 
 
 pass-requires : tie.Need-pass-requires Inv-loop μ-loop
 pass-requires c κs =
-    let l = turn (c .before) .before .loop in
-    (l .inv .1 .weighable .modest, base-small _ _ _ _ _ _ (l .inv .0) (l .inv .1) (l .levels) (l .w) (l .end) (l .left) (l .n) (l .inv .2) (inside-n (turn (c .before))))
+    let l = turn (c .before) .before .loop in (
+      l .inv .1 .weighable .modest,
+      base-small _ _ _ _ _ _ (l .inv .0) (l .inv .1) (l .levels) (l .w) (l .end) (l .left)
+          (l .n) (l .inv .2) (inside-n (turn (c .before))),
+    )
 
 cast-step : tie.Need-cast-step Inv-loop μ-loop
 cast-step c = search needs
@@ -96,7 +106,8 @@ mul-step c =
     record { fits = omega (arith, x, ap (λ (a : ℕ). a * start t .args .g .q) (kept-is (c .before .before))) }
 
 -- something is kept for a place that is stepped at
-kept-there : (c : tie.Else1 Inv-loop μ-loop) → getD (start (turn (c .before)) .args .kept .now) (scanned (turn (c .before))) 0 ≡ 0 → ⊥
+kept-there : (c : tie.Else1 Inv-loop μ-loop)
+    → getD (start (turn (c .before)) .args .kept .now) (scanned (turn (c .before))) 0 ≡ 0 → ⊥
 kept-there c e = c .if1 .left (kept-is (c .before) ∙ e)
 
 step-requires : tie.Need-step-requires Inv-loop μ-loop
@@ -104,8 +115,10 @@ step-requires c κs =
     let t = turn (c .before .before) in
     let s = start t in
     let l = t .before .loop in
-    subst (λ (a : ℕ). Ready (s .args .p) (s .args .g) (l .w) (l .n) (a * s .args .g .q)) (sym (kept-is (c .before .before)))
-    (ready _ _ _ _ _ _ (l .inv .0) (l .inv .1) (l .levels) (l .w) (l .end) (l .left) (l .n) (l .inv .2) (inside-n t) (some-kept _ (kept-there (c .before))))
+    subst (λ (a : ℕ). Ready (s .args .p) (s .args .g) (l .w) (l .n) (a * s .args .g .q))
+    (sym (kept-is (c .before .before)))
+    (ready _ _ _ _ _ _ (l .inv .0) (l .inv .1) (l .levels) (l .w) (l .end) (l .left) (l .n) (l .inv .2) (inside-n t)
+    (some-kept _ (kept-there (c .before))))
 
 -- the step, of what is kept
 stepped-by : (c : tie.After-step Inv-loop μ-loop)
@@ -116,19 +129,30 @@ stepped-by : (c : tie.After-step Inv-loop μ-loop)
 stepped-by c =
     let t = turn (c .before .before .before) in
     c .step .ensures
-    ∙ ap (λ (a : ℕ). step (ruleBy (start t .args .p) (start t .args .g)) (t .before .loop .n) (totalsOf (t .before .loop .w)) (a * start t .args .g .q))
+    ∙ ap (λ (a : ℕ). step (ruleBy (start t .args .p) (start t .args .g)) (t .before .loop .n)
+    (totalsOf (t .before .loop .w)) (a * start t .args .g .q))
     (kept-is (c .before .before .before))
 
 cast-put-magnitude : tie.Need-cast-put-magnitude Inv-loop μ-loop
 cast-put-magnitude c =
     let t = turn (c .before .before .before .before .before) in
     let l = t .before .loop in
-    record { fits = omega (arith, taken-small _ _ _ _ _ _ (l .inv .0) (l .inv .1) (l .levels) (l .w) (l .end) (l .left) (l .n) (l .inv .2) (inside-n t) _ (stepped-by (c .before .before))) }
+    record {
+      fits = omega (
+        arith,
+        taken-small _ _ _ _ _ _ (l .inv .0) (l .inv .1) (l .levels) (l .w) (l .end) (l .left)
+            (l .n) (l .inv .2) (inside-n t) _ (stepped-by (c .before .before)),
+      );
+    }
 
 put-magnitude-requires : tie.Need-put-magnitude-requires Inv-loop μ-loop
 put-magnitude-requires c κs =
     let t = turn (c .before .before .before .before .before) in
-    omega (arith, c .before .before .before .before .before .before .block-place .ensures .1, t .before .loop .inv .2 .room)
+    omega (
+      arith,
+      c .before .before .before .before .before .before .block-place .ensures .1,
+      t .before .loop .inv .2 .room,
+    )
 
 end-with-requires : tie.Need-end-with-requires Inv-loop μ-loop
 end-with-requires c κs =
@@ -156,17 +180,23 @@ loop-again c =
       sc,
       begins,
       rw (w .2, w .3, w .4, w .5)
-          (passes _ _ _ _ _ _ sc begins (l .levels) (l .w) (l .end) (l .left) (l .n) (l .inv .2) i _ (sym (kept-is (c .before)) ∙ w .0 .taken) (w .1 .ensures)),
+          (passes _ _ _ _ _ _ sc begins (l .levels) (l .w) (l .end) (l .left) (l .n) (l .inv .2) i _
+          (sym (kept-is (c .before)) ∙ w .0 .taken) (w .1 .ensures)),
     ))
     (λ w.
     let at-step : tie.After-step Inv-loop μ-loop =
-    record { before = record { before = record { before = c .before; if1 = w .0 }; struct-known = w .1 }; step = w .2 } in
+    record {
+      before = record { before = record { before = c .before; if1 = w .0 }; struct-known = w .1 };
+      step = w
+          .2;
+    } in
     let put : c .if1 .levels ≡ set (l .levels) (scanned t) (w .2 .result .prev) =
     w .9 ∙ w .5 .ensures ∙ ap (λ (k : ℕ). set (l .levels) k (w .2 .result .prev)) (place-is (c .before .before)) in (
       sc,
       begins,
       rw (put, w .10, w .11, w .12)
-          (steps _ _ _ _ _ _ sc begins (l .levels) (l .w) (l .end) (l .left) (l .n) (l .inv .2) i (w .2 .result) (stepped-by at-step) _ (w .8 .ensures) (kept-there (record { before = c .before; if1 = w .0 }))),
+          (steps _ _ _ _ _ _ sc begins (l .levels) (l .w) (l .end) (l .left) (l .n) (l .inv .2) i (w .2 .result)
+          (stepped-by at-step) _ (w .8 .ensures) (kept-there (record { before = c .before; if1 = w .0 }))),
     ))
     (c .if1 .came)
 
@@ -176,7 +206,8 @@ same-length c = search needs
 returns : tie.Need-returns Inv-loop μ-loop
 returns c =
     let l = c .before .loop in
-    walked-over _ _ _ _ _ _ (l .inv .0) (l .inv .1) (l .levels) (l .w) (l .end) (l .left) (l .n) (l .inv .2) (omega (arith, c .loop-test .left))
+    walked-over _ _ _ _ _ _ (l .inv .0) (l .inv .1) (l .levels) (l .w) (l .end) (l .left) (l .n) (l .inv .2)
+    (omega (arith, c .loop-test .left))
 
 pub walk-places-spec : {M : Type 1} → statement M
 walk-places-spec =

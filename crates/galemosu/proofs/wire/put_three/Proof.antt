@@ -38,7 +38,8 @@ returns c =
 returns-2 : tie.Need-returns-2
 returns-2 c =
     let g = c .before .before .before .before .coded2 .given in
-    three-refused _ _ refl (g .0 .0) (g .0 .1 .0) _ _ (g .1) (c .number .ensures) (c .before .before .component-number .ensures)
+    three-refused _ _ refl (g .0 .0) (g .0 .1 .0) _ _ (g .1) (c .number .ensures)
+    (c .before .before .component-number .ensures)
 
 pub put-three-spec : {M : Type 1} → statement M
 put-three-spec =

@@ -42,7 +42,8 @@ returns c =
     let q = c .before .before .before .before .before .before in
     let a = q .before .before .before .args in
     let t = q .before .before .costs-of .ensures in
-    let of : Costs → Quant = λ t. calledIn (a .mode) (a .block .now) (a .log2-side) (a .component) (record { qp = a .qp; lambda = a .lambda }) (yes (a .intra-slice)) (yes (a .intra-coded)) t in
+    let of : Costs → Quant = λ t. calledIn (a .mode) (a .block .now) (a .log2-side) (a .component)
+    (record { qp = a .qp; lambda = a .lambda }) (yes (a .intra-slice)) (yes (a .intra-coded)) t in
     let g = c .before .before .before .coded .given in
     let w = quant-coded _ _ (q .quant-nnz .ensures .0 ∙ ap (λ (t : Costs). quantAnswer (of t)) t) (g .0 .0) (g .1) in
     (w .0, (w .1, q .quant-nnz .ensures .1 ∙ ap (λ (t : Costs). quantBuffer (of t)) t))
@@ -55,9 +56,11 @@ returns-2 c =
     let q = c .before .before .before .before .before .before .before in
     let a = q .before .before .before .args in
     let t = q .before .before .costs-of .ensures in
-    let of : Costs → Quant = λ t. calledIn (a .mode) (a .block .now) (a .log2-side) (a .component) (record { qp = a .qp; lambda = a .lambda }) (yes (a .intra-slice)) (yes (a .intra-coded)) t in
+    let of : Costs → Quant = λ t. calledIn (a .mode) (a .block .now) (a .log2-side) (a .component)
+    (record { qp = a .qp; lambda = a .lambda }) (yes (a .intra-slice)) (yes (a .intra-coded)) t in
     let g = c .before .before .before .before .coded2 .given in
-    let w = quant-refused _ _ (q .quant-nnz .ensures .0 ∙ ap (λ (t : Costs). quantAnswer (of t)) t) (g .0 .0) (g .0 .1 .0) _ _ (g .1) (c .number .ensures) (c .before .before .component-number .ensures) in
+    let w = quant-refused _ _ (q .quant-nnz .ensures .0 ∙ ap (λ (t : Costs). quantAnswer (of t)) t) (g .0 .0)
+    (g .0 .1 .0) _ _ (g .1) (c .number .ensures) (c .before .before .component-number .ensures) in
     (w .0, (w .1, q .quant-nnz .ensures .1 ∙ ap (λ (t : Costs). quantBuffer (of t)) t))
 
 pub quantise-spec : {M : Type 1} → statement M

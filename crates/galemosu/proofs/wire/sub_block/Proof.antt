@@ -45,10 +45,15 @@ returns c =
     let a = q .before .before .before .before .before .before .before .before .before .args in
     let t = q .before .before .costs-of .ensures in
     let y = settingsIn (a .qp .now) (a .lambda .now) in
-    let of : Costs → SubBlock = λ t. calledIn (a .mode) (a .buffer .now) (a .log2-luma) (y 0) (y 1) (y 2) (a .run) (yes (a .intra-slice)) (yes (a .intra-coded)) t in
+    let of : Costs → SubBlock = λ t. calledIn (a .mode) (a .buffer .now) (a .log2-luma) (y 0) (y 1) (y 2) (a .run)
+    (yes (a .intra-slice)) (yes (a .intra-coded)) t in
     let answer = q .sub-block-tq .ensures .0 ∙ ap (λ (t : Costs). subBlockAnswer (of t)) t in (
       c .put-three .ensures .0 ∙ ap threeResult answer,
-      (c .put-three .ensures .1 ∙ ap threeWritten answer, q .sub-block-tq .ensures .1 ∙ ap (λ (t : Costs). subBlockBuffer (of t)) t),
+      (
+        c .put-three .ensures .1 ∙ ap threeWritten answer,
+        q .sub-block-tq .ensures .1
+            ∙ ap (λ (t : Costs). subBlockBuffer (of t)) t,
+      ),
     )
 
 pub sub-block-spec : {M : Type 1} → statement M

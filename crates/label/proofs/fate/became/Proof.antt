@@ -34,7 +34,15 @@ returns c =
     let g = s .scale-of .ensures in
     let f = s .before .fits in
     c .judged .ensures
-    ∙ rw (c .before .magnitude2 .ensures .0, r .rounded .ensures .0, g .shift, g .q, m .magnitude .ensures .0, toZ-ofZ (f .c), toZ-ofZ (f .level)) refl
+    ∙ rw (
+      c .before .magnitude2 .ensures .0,
+      r .rounded .ensures .0,
+      g .shift,
+      g .q,
+      m .magnitude .ensures .0,
+      toZ-ofZ (f .c),
+      toZ-ofZ (f .level),
+    ) refl
 
 pub became-spec : {M : Type 1} → statement M
 became-spec =

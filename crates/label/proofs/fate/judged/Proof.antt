@@ -24,11 +24,13 @@ returns-3 c = rw (ne-eqb _ _ (c .before .if1 .left), eq-eqb _ _ (c .if3 .taken))
 
 returns-4 : tie.Need-returns-4
 unfolding fateOf
-returns-4 c = rw (ne-eqb _ _ (c .before .before .if1 .left), ne-eqb _ _ (c .before .if3 .left), eq-eqb _ _ (c .if4 .taken)) refl
+returns-4 c =
+    rw (ne-eqb _ _ (c .before .before .if1 .left), ne-eqb _ _ (c .before .if3 .left), eq-eqb _ _ (c .if4 .taken)) refl
 
 returns-5 : tie.Need-returns-5
 unfolding fateOf
-returns-5 c = rw (ne-eqb _ _ (c .before .before .if1 .left), ne-eqb _ _ (c .before .if3 .left), ne-eqb _ _ (c .if4 .left)) refl
+returns-5 c =
+    rw (ne-eqb _ _ (c .before .before .if1 .left), ne-eqb _ _ (c .before .if3 .left), ne-eqb _ _ (c .if4 .left)) refl
 
 pub judged-spec : {M : Type 1} → statement M
 judged-spec = tie.close (tie.spec add-if4 returns returns-2 returns-3 returns-4 returns-5)

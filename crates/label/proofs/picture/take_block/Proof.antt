@@ -62,7 +62,8 @@ loop-again c =
     let a = c .before .before .before .before .before .args in
     let p = c .before .before .place in
     let value : toZ w16 (ofZ w16 (c .residual .result)) ≡ residualAt (a .picture .now) (a .at) (l .i) =
-    ap (λ (z : ℤ). toZ w16 (ofZ w16 z)) (c .residual .ensures ∙ ap (λ (k : ℕ). residualOf (getD (a .picture .now) k 0)) (p .ensures .0))
+    ap (λ (z : ℤ). toZ w16 (ofZ w16 z)) (c .residual .ensures
+    ∙ ap (λ (k : ℕ). residualOf (getD (a .picture .now) k 0)) (p .ensures .0))
     ∙ toZ-ofZ (residual-fits (getD (a .picture .now) (placeOf (a .at) (l .i / 8) (l .i % 8)) 0)) in (
       omega arith,
       simp length-set (l .inv .1),

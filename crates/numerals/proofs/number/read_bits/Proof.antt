@@ -1,5 +1,5 @@
--- `numerals::number::read_bits` meets its contract. The loop's invariant: i digits are worth less than 16^i, and what the digits left mean
--- behind them is what the word means.
+-- `numerals::number::read_bits` meets its contract. The loop's invariant: i digits are worth less than 16^i, and what
+-- the digits left mean behind them is what the word means.
 -- Assumes nothing.
 use mathlib.Core.Path.{_≡_, sym, ap, _∙_}
 use Prim.Native.Nat.{ℕ, _+_, _*_, _≤_, _<_, _-_, _^_}
@@ -32,17 +32,27 @@ hex-digit-requires c κs = search needs
 returns-2 : tie.Need-returns-2 Inv-loop μ-loop
 returns-2 c =
     let l = c .before .before .before .before .loop in
-    sym (no-digit (l .v) _ (l .i) (c .before .before .before .loop-test .taken) (omega (arith, c .before .hex-digit .ensures))) ∙ l .inv .2
+    sym (no-digit (l .v) _ (l .i) (c .before .before .before .loop-test .taken)
+    (omega (arith, c .before .hex-digit .ensures))) ∙ l .inv .2
 
 mul-v : tie.Need-mul-v Inv-loop μ-loop
 mul-v c =
     let l = c .before .before .before .before .loop in
-    record { fits = omega (arith, fits (l .v) (l .i) 0 (l .inv .1) (omega arith) (omega (arith, c .before .before .before .before .before .if1 .left))) }
+    record {
+      fits = omega (
+        arith,
+        fits (l .v) (l .i) 0 (l .inv .1) (omega arith)
+            (omega (arith, c .before .before .before .before .before .if1 .left)),
+      );
+    }
 
 add-v : tie.Need-add-v Inv-loop μ-loop
 add-v c =
     let l = c .before .before .before .before .loop in
-    record { fits = fits (l .v) (l .i) _ (l .inv .1) (c .if2 .left) (omega (arith, c .before .before .before .before .before .if1 .left)) }
+    record {
+      fits = fits (l .v) (l .i) _ (l .inv .1) (c .if2 .left)
+          (omega (arith, c .before .before .before .before .before .if1 .left));
+    }
 
 add-i : tie.Need-add-i Inv-loop μ-loop
 add-i c = search needs
@@ -56,7 +66,8 @@ loop-again c =
     let d = c .before .hex-digit .ensures in (
       omega arith,
       one-more (l .v) (l .i) _ (l .inv .1) (c .if2 .left),
-      ap (λ (d : ℕ). hexRead (16 * l .v + d) (drop (l .i + 1) (c .before .before .before .before .before .before .before .args .word .now))) d
+      ap (λ (d : ℕ). hexRead (16 * l .v + d)
+          (drop (l .i + 1) (c .before .before .before .before .before .before .before .args .word .now))) d
           ∙ sym (digit-next (l .v) _ (l .i) (c .before .before .before .loop-test .taken) (omega (arith, d)))
           ∙ l .inv .2,
     )

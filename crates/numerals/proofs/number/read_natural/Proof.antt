@@ -1,5 +1,5 @@
--- `numerals::number::read_natural` meets its contract. The loop's invariant: what was read is within the limit, and what the digits left mean
--- behind it is what the word means.
+-- `numerals::number::read_natural` meets its contract. The loop's invariant: what was read is within the limit, and
+-- what the digits left mean behind it is what the word means.
 -- Assumes nothing.
 use mathlib.Core.Path.{_≡_, sym, _∙_}
 use mathlib.Core.Logic.{⊎-elim}
@@ -10,7 +10,8 @@ use borrow.Author.Needs.{needs}
 use lib.ListN.{length, drop}
 use Rattle.numerals.specs.declared.number.Natural.the-variants.{Malformed}
 use Rattle.numerals.specs.Number.{naturalUpTo}
-use Rattle.numerals.proofs.Reading.{readFrom, a-digit, below-digits, above-digits, none-read, zero-led, begun, no-digit, digit-next, past-limit, all-read}
+use Rattle.numerals.proofs.Reading.{readFrom, a-digit, below-digits, above-digits, none-read, zero-led, begun}
+use Rattle.numerals.proofs.Reading.{no-digit, digit-next, past-limit, all-read}
 use Rattle.numerals.proofs.number.read_natural.Statement.{statement}
 use Rattle.numerals.proofs.number.read_natural.Tie as tie
 
@@ -42,7 +43,8 @@ loop-holds c =
     let w = c .before .before .before .args .word .now in (
       omega arith,
       omega arith,
-      begun _ w (some w (c .before .before .if1 .left)) (⊎-elim (λ w e. omega arith) (λ w e. absurd (w .left e)) (c .if2 .came)),
+      begun _ w (some w (c .before .before .if1 .left)) (⊎-elim (λ w e. omega arith) (λ w e. absurd (w .left e))
+          (c .if2 .came)),
     )
 
 shared-slice-read-b : tie.Need-shared-slice-read-b Inv-loop μ-loop
@@ -56,7 +58,8 @@ returns-3 c =
 returns-4 : tie.Need-returns-4 Inv-loop μ-loop
 returns-4 c =
     let l = c .before .before .before .before .loop in
-    sym (no-digit _ (l .v) _ (l .i) (c .before .before .before .loop-test .taken) (above-digits _ (c .if5 .taken))) ∙ l .inv .2
+    sym (no-digit _ (l .v) _ (l .i) (c .before .before .before .loop-test .taken) (above-digits _ (c .if5 .taken)))
+    ∙ l .inv .2
 
 cast-d : tie.Need-cast-d Inv-loop μ-loop
 cast-d c = search needs
@@ -69,7 +72,8 @@ returns-5 c =
 returns-6 : tie.Need-returns-6 Inv-loop μ-loop
 returns-6 c =
     let l = c .before .before .before .before .before .before .loop in
-    sym (past-limit _ (l .v) _ (l .i) (c .before .before .before .before .before .loop-test .taken) (omega arith)) ∙ l .inv .2
+    sym (past-limit _ (l .v) _ (l .i) (c .before .before .before .before .before .loop-test .taken) (omega arith))
+    ∙ l .inv .2
 
 mul-v : tie.Need-mul-v Inv-loop μ-loop
 mul-v c = search needs
@@ -88,7 +92,8 @@ loop-again c =
     let l = c .before .before .before .before .before .before .loop in (
       omega arith,
       omega arith,
-      sym (digit-next _ (l .v) _ (l .i) (c .before .before .before .before .before .loop-test .taken) (a-digit _ (c .before .before .before .if4 .left) (c .before .before .if5 .left))) ∙ l .inv .2,
+      sym (digit-next _ (l .v) _ (l .i) (c .before .before .before .before .before .loop-test .taken)
+          (a-digit _ (c .before .before .before .if4 .left) (c .before .before .if5 .left))) ∙ l .inv .2,
     )
 
 returns-7 : tie.Need-returns-7 Inv-loop μ-loop

@@ -5,7 +5,8 @@ use native.Mathlib.Omega.{arith}
 use borrow.Author.Needs.{needs}
 use Rattle.numerals.specs.Number.{negativeOf, positiveOf}
 use Rattle.numerals.proofs.Reading.{within}
-use Rattle.numerals.proofs.Signs.{nothing, behind-minus, plain, no-negative, no-minus-zero, one-less-fits, minus-fits, a-negative, no-positive, plain-fits, a-positive}
+use Rattle.numerals.proofs.Signs.{nothing, behind-minus, plain, no-negative, no-minus-zero, one-less-fits}
+use Rattle.numerals.proofs.Signs.{minus-fits, a-negative, no-positive, plain-fits, a-positive}
 use Rattle.numerals.proofs.number.read_sample.Statement.{statement}
 use Rattle.numerals.proofs.number.read_sample.Tie as tie
 
@@ -38,25 +39,29 @@ returns-2 c =
     let r = c .before .before .read-natural in
     sym no-negative
     ∙ ap negativeOf (sym (c .enum-told .given .1) ∙ r .ensures)
-    ∙ sym (behind-minus _ (c .before .before .before .before .before .before .if1 .left) (c .before .before .before .before .if2 .taken))
+    ∙ sym (behind-minus _ (c .before .before .before .before .before .before .if1 .left)
+    (c .before .before .before .before .if2 .taken))
 
 returns-3 : tie.Need-returns-3
 returns-3 c =
     let r = c .before .before .before .before .read-natural in
     sym (no-minus-zero (c .before .before .n .given .0 .0) (omega arith))
     ∙ ap negativeOf (sym (c .before .before .n .given .1) ∙ r .ensures)
-    ∙ sym (behind-minus _ (c .before .before .before .before .before .before .before .before .if1 .left) (c .before .before .before .before .before .before .if2 .taken))
+    ∙ sym (behind-minus _ (c .before .before .before .before .before .before .before .before .if1 .left)
+    (c .before .before .before .before .before .before .if2 .taken))
 
 sub-t14 : tie.Need-sub-t14
 sub-t14 c = search needs
 
 cast-t15 : tie.Need-cast-t15
 cast-t15 c =
-    one-less-fits _ (c .if3 .left) (within _ _ _ (sym (c .before .before .before .before .read-natural .ensures) ∙ c .before .before .n .given .1))
+    one-less-fits _ (c .if3 .left) (within _ _ _ (sym (c .before .before .before .before .read-natural .ensures)
+    ∙ c .before .before .n .given .1))
 
 sub-t16 : tie.Need-sub-t16
 sub-t16 c =
-    minus-fits _ (c .if3 .left) (within _ _ _ (sym (c .before .before .before .before .read-natural .ensures) ∙ c .before .before .n .given .1))
+    minus-fits _ (c .if3 .left) (within _ _ _ (sym (c .before .before .before .before .read-natural .ensures)
+    ∙ c .before .before .n .given .1))
 
 returns-4 : tie.Need-returns-4
 returns-4 c =
@@ -64,7 +69,8 @@ returns-4 c =
     let n = c .before .before .n .given in
     a-negative _ (c .if3 .left) (within _ _ _ (sym (r .ensures) ∙ n .1))
     ∙ ap negativeOf (sym (n .1) ∙ r .ensures)
-    ∙ sym (behind-minus _ (c .before .before .before .before .before .before .before .before .if1 .left) (c .before .before .before .before .before .before .if2 .taken))
+    ∙ sym (behind-minus _ (c .before .before .before .before .before .before .before .before .if1 .left)
+    (c .before .before .before .before .before .before .if2 .taken))
 
 read-natural-requires-2 : tie.Need-read-natural-requires-2
 read-natural-requires-2 c κs = search needs
@@ -83,7 +89,8 @@ returns-5 c =
     ∙ sym (plain _ (c .before .before .before .before .before .if1 .left) (c .before .before .before .if2 .left))
 
 cast-t18 : tie.Need-cast-t18
-cast-t18 c = plain-fits _ (within _ _ _ (sym (c .before .before .before .read-natural2 .ensures) ∙ c .before .n2 .given .1))
+cast-t18 c = plain-fits _ (within _ _ _ (sym (c .before .before .before .read-natural2 .ensures)
+    ∙ c .before .n2 .given .1))
 
 returns-6 : tie.Need-returns-6
 returns-6 c =
@@ -91,7 +98,8 @@ returns-6 c =
     let n = c .before .n2 .given in
     a-positive _ (within _ _ _ (sym (r .ensures) ∙ n .1))
     ∙ ap positiveOf (sym (n .1) ∙ r .ensures)
-    ∙ sym (plain _ (c .before .before .before .before .before .before .if1 .left) (c .before .before .before .before .if2 .left))
+    ∙ sym (plain _ (c .before .before .before .before .before .before .if1 .left)
+    (c .before .before .before .before .if2 .left))
 
 pub read-sample-spec : {M : Type 1} → statement M
 read-sample-spec =

@@ -1,4 +1,5 @@
--- `numerals::text::put_natural` meets its contract: it calls itself with a tenth of the number, and puts the last digit behind those of the tenth.
+-- `numerals::text::put_natural` meets its contract: it calls itself with a tenth of the number, and puts the last digit
+-- behind those of the tenth.
 -- Assumes nothing.
 use Prim.Native.Nat.{ℕ, _<_, _/_}
 use native.Mathlib.Omega.{arith}
@@ -83,7 +84,12 @@ put-natural-slice-write-out-2 : (t : ℕ) → put-natural-lts.Need-slice-write-o
 ) (put-natural-at t) put-natural.Post
 put-natural-slice-write-out-2 t c =
     let p = c .before .before .put-natural in
-    omega (arith, p .ensures .next, p .kept .0, few-digits 18 (c .before .before .before .before .before .before .args .value / 10) (omega arith))
+    omega (
+      arith,
+      p .ensures .next,
+      p .kept .0,
+      few-digits 18 (c .before .before .before .before .before .before .args .value / 10) (omega arith),
+    )
 
 put-natural-add-result-2 : (t : ℕ) → put-natural-lts.Need-add-result-2 (
   put-natural-below t,
@@ -102,7 +108,9 @@ put-natural-returns-2 : (t : ℕ) → put-natural-lts.Need-returns-2 (
   put-natural.Post,
 ) (put-natural-at t) put-natural.Post
 put-natural-returns-2 t c =
-    put-more _ _ _ _ _ (c .before .before .before .before .before .before .pre .1) (c .before .before .before .before .if1 .left) (c .before .before .before .before .before .before .fits .value .fits) (c .before .before .put-natural .ensures)
+    put-more _ _ _ _ _ (c .before .before .before .before .before .before .pre .1)
+    (c .before .before .before .before .if1 .left)
+    (c .before .before .before .before .before .before .fits .value .fits) (c .before .before .put-natural .ensures)
 
 pub +put-natural-spec : {M : Type 1} → statement M
 +put-natural-spec = close μ-put-natural λ t. put-natural-lts.spec (

@@ -27,7 +27,9 @@ returns : tie.Need-returns
 returns c =
     let s = c .before .before .before .before .before .before .before in
     let m = c .before .before .before .before .before .magnitude .ensures in
-    put-minus _ (s .args .at) _ _ _ (m .1) (s .args .value) (s .fits .value) (m .0) (c .before .before .before .before .if1 .taken) (omega (arith, s .pre)) (c .before .before .put-natural .ensures)
+    put-minus _ (s .args .at) _ _ _ (m .1) (s .args .value) (s .fits .value) (m .0)
+    (c .before .before .before .before .if1 .taken) (omega (arith, s .pre))
+    (c .before .before .put-natural .ensures)
 
 put-natural-requires-2 : tie.Need-put-natural-requires-2
 put-natural-requires-2 c κs = search needs
@@ -39,7 +41,8 @@ returns-2 : tie.Need-returns-2
 returns-2 c =
     let s = c .before .before .before .before .before .before .before in
     let m = c .before .before .before .before .before .magnitude .ensures in
-    put-plain _ _ _ _ _ (m .1) (s .args .value) (s .fits .value) (m .0) (c .before .before .before .before .if1 .left) (c .before .before .put-natural2 .ensures)
+    put-plain _ _ _ _ _ (m .1) (s .args .value) (s .fits .value) (m .0) (c .before .before .before .before .if1 .left)
+    (c .before .before .put-natural2 .ensures)
 
 pub put-sample-spec : {M : Type 1} → statement M
 put-sample-spec =

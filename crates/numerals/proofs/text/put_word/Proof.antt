@@ -1,4 +1,5 @@
--- `numerals::text::put_word` meets its contract: byte by byte. The loop's invariant: the first i bytes of the word are put.
+-- `numerals::text::put_word` meets its contract: byte by byte. The loop's invariant: the first i bytes of the word are
+-- put.
 -- Assumes nothing.
 use mathlib.Core.Path.{_≡_}
 use Prim.Native.Nat.{_+_, _≤_, _-_}
@@ -11,7 +12,8 @@ use Rattle.numerals.proofs.text.put_word.Statement.{statement}
 use Rattle.numerals.proofs.text.put_word.Tie as tie
 
 abbrev Inv-loop : tie.InvT-loop
-Inv-loop out₀ at word i₀ out i = (i ≤ length word) × (length out ≡ length out₀) × Put out₀ at (take i word) (length word) out (at + i)
+Inv-loop out₀ at word i₀ out i =
+    (i ≤ length word) × (length out ≡ length out₀) × Put out₀ at (take i word) (length word) out (at + i)
 
 abbrev μ-loop : tie.MeasureT-loop
 μ-loop out₀ at word i₀ out i = length word - i
@@ -35,7 +37,8 @@ loop-less : tie.Need-loop-less Inv-loop μ-loop
 loop-less c = search needs
 
 loop-again : tie.Need-loop-again Inv-loop μ-loop
-loop-again c = (search needs, search needs, put-next _ _ _ _ _ (omega arith) (omega arith) (c .before .before .loop .inv .2))
+loop-again c =
+    (search needs, search needs, put-next _ _ _ _ _ (omega arith) (omega arith) (c .before .before .loop .inv .2))
 
 add-result : tie.Need-add-result Inv-loop μ-loop
 add-result c = search needs

@@ -1,4 +1,5 @@
--- `protocol::reply::put_numbers` meets its contract. The loop's invariant: each number took at most 21 bytes, its space among them.
+-- `protocol::reply::put_numbers` meets its contract. The loop's invariant: each number took at most 21 bytes, its space
+-- among them.
 -- Assumes nothing.
 use mathlib.Core.Path.{_≡_, _∙_}
 use Prim.Native.Nat.{_+_, _*_, _≤_, _-_}

@@ -1,4 +1,5 @@
--- `protocol::reply::put_samples` meets its contract. The loop's invariant: each sample took at most 7 bytes, its space among them.
+-- `protocol::reply::put_samples` meets its contract. The loop's invariant: each sample took at most 7 bytes, its space
+-- among them.
 -- Assumes nothing.
 use mathlib.Core.Path.{_≡_, _∙_}
 use Prim.Native.Nat.{_+_, _*_, _≤_, _-_}

@@ -40,8 +40,11 @@ returns c =
     let t = c .before .before .before .before .before .before .before .before .costs-of .ensures in
     let s = c .before .before .before .before .before .before .before .before .before .settings-of .ensures in
     let a = c .before .before .before .before .before .before .before .before .before .before .args in
-    let f = a .fields .now in
-    (quantise-by quantAnswer (a .mode) _ _ f _ _ _ k s t (q .0), quantise-by quantBuffer (a .mode) _ _ f _ _ _ k s t (q .1))
+    let f = a .fields .now in (
+      quantise-by quantAnswer (a .mode) _ _ f _ _ _ k s t (q .0),
+      quantise-by quantBuffer (a .mode) _ _ f _ _ _ k s t
+          (q .1),
+    )
 
 pub quantise-by-spec : {M : Type 1} → statement M
 quantise-by-spec =

@@ -26,7 +26,8 @@ returns-2 : tie.Need-returns-2
 unfolding fieldOf
 returns-2 c =
     rw (ne-eqb _ _ (c .before .before .if1 .left))
-    (c .read-natural .ensures ∙ ap (λ (m : ℕ). naturalUpTo m (c .before .before .before .before .args .word .now)) (c .before .limit-of .ensures))
+    (c .read-natural .ensures ∙ ap (λ (m : ℕ). naturalUpTo m (c .before .before .before .before .args .word .now))
+    (c .before .limit-of .ensures))
 
 pub read-field-spec : {M : Type 1} → statement M
 read-field-spec =

@@ -1,4 +1,5 @@
--- `protocol::request::read_fields` meets its contract. The loop's invariant: each field so far is within its kind's limit.
+-- `protocol::request::read_fields` meets its contract. The loop's invariant: each field so far is within its kind's
+-- limit.
 -- Assumes nothing.
 use mathlib.Core.Path.{_≡_, sym, _∙_}
 use Prim.Native.Nat.{ℕ, _≤_, _<_, _-_}
@@ -70,7 +71,9 @@ loop-again c =
     let l = c .before .before .before .before .before .before .before .before .before .loop in
     let v = c .before .v .given in (
       omega arith,
-      one-more (c .before .before .before .before .before .before .before .before .before .before .before .before .args .kinds .now) (l .fields) (l .i) _ (l .inv .1) (field-within _ _ _ (omega arith) (sym (c .before .before .before .read-field .ensures) ∙ v .1)),
+      one-more (c .before .before .before .before .before .before .before .before .before .before .before .before .args
+          .kinds .now) (l .fields) (l .i) _ (l .inv .1)
+          (field-within _ _ _ (omega arith) (sym (c .before .before .before .read-field .ensures) ∙ v .1)),
     )
 
 returns-3 : tie.Need-returns-3 Inv-loop μ-loop

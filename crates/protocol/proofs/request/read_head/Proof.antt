@@ -37,17 +37,20 @@ read-fields-requires-3 c κs = search needs
 returns : tie.Need-returns
 returns c =
     let r = c .read-fields in
-    subst (λ (v : Verb). Within (r .result) (kindsOf v) (r .last .1 .1 .1 .0)) (sym (c .before .before .before .enum-told .given .1)) (r .ensures)
+    subst (λ (v : Verb). Within (r .result) (kindsOf v) (r .last .1 .1 .1 .0))
+    (sym (c .before .before .before .enum-told .given .1)) (r .ensures)
 
 returns-2 : tie.Need-returns-2
 returns-2 c =
     let r = c .read-fields2 in
-    subst (λ (v : Verb). Within (r .result) (kindsOf v) (r .last .1 .1 .1 .0)) (sym (c .before .before .before .enum-told2 .given .1)) (r .ensures)
+    subst (λ (v : Verb). Within (r .result) (kindsOf v) (r .last .1 .1 .1 .0))
+    (sym (c .before .before .before .enum-told2 .given .1)) (r .ensures)
 
 returns-3 : tie.Need-returns-3
 returns-3 c =
     let r = c .read-fields3 in
-    subst (λ (v : Verb). Within (r .result) (kindsOf v) (r .last .1 .1 .1 .0)) (sym (c .before .before .before .enum-told3 .given .1)) (r .ensures)
+    subst (λ (v : Verb). Within (r .result) (kindsOf v) (r .last .1 .1 .1 .0))
+    (sym (c .before .before .before .enum-told3 .given .1)) (r .ensures)
 
 pub read-head-spec : {M : Type 1} → statement M
 read-head-spec =

@@ -73,10 +73,14 @@ abbrev word : tie.Else5 → List ℕ
 word c = let e = else-1 (else-2 (else-3 (else-4 c))) in e .before .before .before .before .args .word .now
 
 nots : (c : tie.Else5) (v : Verb) → Not (word c) v
-nots c Transform = let e = else-1 (else-2 (else-3 (else-4 c))) in record { test = _; said = e .if1 .left; else = e .before .same .ensures .1 }
-nots c (Quantise Walk) = let e = else-2 (else-3 (else-4 c)) in record { test = _; said = e .if2 .left; else = e .before .same2 .ensures .1 }
-nots c (Quantise Least) = let e = else-3 (else-4 c) in record { test = _; said = e .if3 .left; else = e .before .same3 .ensures .1 }
-nots c (SubBlock Walk) = let e = else-4 c in record { test = _; said = e .if4 .left; else = e .before .same4 .ensures .1 }
+nots c Transform = let e =
+    else-1 (else-2 (else-3 (else-4 c))) in record { test = _; said = e .if1 .left; else = e .before .same .ensures .1 }
+nots c (Quantise Walk) = let e =
+    else-2 (else-3 (else-4 c)) in record { test = _; said = e .if2 .left; else = e .before .same2 .ensures .1 }
+nots c (Quantise Least) = let e =
+    else-3 (else-4 c) in record { test = _; said = e .if3 .left; else = e .before .same3 .ensures .1 }
+nots c (SubBlock Walk) = let e =
+    else-4 c in record { test = _; said = e .if4 .left; else = e .before .same4 .ensures .1 }
 nots c (SubBlock Least) = record { test = _; said = c .if5 .left; else = c .before .same5 .ensures .1 }
 
 returns-6 : tie.Need-returns-6

@@ -7,8 +7,10 @@ use borrow.Author.Needs.{needs}
 use Rattle.quantise.proofs.distortion.part_length.Statement.{statement}
 use Rattle.quantise.proofs.distortion.part_length.Tie as tie
 
-front-squared : (s : tie.Start) → (1 ≤ s .args .g .front * s .args .g .front) × (s .args .g .front * s .args .g .front ≤ 2 ^ 28)
-front-squared s = (mul-le-mul (s .pre .some-front) (s .pre .some-front), mul-le-mul (s .pre .wide-front) (s .pre .wide-front))
+front-squared : (s : tie.Start) → (1 ≤ s .args .g .front * s .args .g .front)
+    × (s .args .g .front * s .args .g .front ≤ 2 ^ 28)
+front-squared s =
+    (mul-le-mul (s .pre .some-front) (s .pre .some-front), mul-le-mul (s .pre .wide-front) (s .pre .wide-front))
 
 cast-front : tie.Need-cast-front
 cast-front c = search needs
@@ -21,8 +23,10 @@ div-result c = omega (arith, front-squared (c .before) .0)
 
 returns : tie.Need-returns
 returns c =
-    let f = front-squared (c .before) in
-    (le-div-iff-mul-le (f .0) .1 (omega (arith, f .1)), omega (arith, div-mul-le-self (2 ^ 33) (c .before .args .g .front * c .before .args .g .front)))
+    let f = front-squared (c .before) in (
+      le-div-iff-mul-le (f .0) .1 (omega (arith, f .1)),
+      omega (arith, div-mul-le-self (2 ^ 33) (c .before .args .g .front * c .before .args .g .front)),
+    )
 
 pub part-length-spec : {M : Type 1} → statement M
 part-length-spec = tie.close (tie.spec cast-front mul-result div-result returns)

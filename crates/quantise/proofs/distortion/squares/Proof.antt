@@ -13,13 +13,15 @@ use Rattle.integers.specs.Sum.{over, onℕ}
 use Rattle.integers.proofs.Sums.{nats}
 use Rattle.integers.proofs.Over.{over-next, over-end}
 use Rattle.quantise.specs.Code.{zeroDistortion}
-use Rattle.quantise.proofs.Uncoding.{zeroError, mostSquare, Parts, parts, squares-next, squares-fit, zero-distortion}
+use Rattle.quantise.proofs.Uncoding.{zeroError, mostSquare, Parts, parts, squares-next, squares-fit}
+use Rattle.quantise.proofs.Uncoding.{zero-distortion}
 use Rattle.quantise.proofs.distortion.squares.Statement.{statement}
 use Rattle.quantise.proofs.distortion.squares.Tie as tie
 
 abbrev Inv-loop : tie.InvT-loop
 Inv-loop part g sum₀ i₀ sum i =
-    (i ≤ length part) × (sum + over onℕ (zeroDistortion g) (drop i part) ≡ over onℕ (zeroDistortion g) part) × (sum ≤ i * mostSquare g)
+    (i ≤ length part) × (sum + over onℕ (zeroDistortion g) (drop i part) ≡ over onℕ (zeroDistortion g) part)
+    × (sum ≤ i * mostSquare g)
 
 abbrev μ-loop : tie.MeasureT-loop
 μ-loop part g sum₀ i₀ sum i = length part - i
@@ -44,10 +46,12 @@ got c =
     let f : SFits w16 z = sfits-of (c .before .magnitude-arg .given) in
     (c .magnitude .ensures .0 ∙ ap natAbs (toZ-ofZ {w = w16} {z = z} f), f)
 
-bounds : (c : tie.After-magnitude Inv-loop μ-loop) → Parts (c .before .before .before .before .args .g) (c .magnitude .result)
+bounds : (c : tie.After-magnitude Inv-loop μ-loop)
+    → Parts (c .before .before .before .before .args .g) (c .magnitude .result)
 bounds c =
     let s = c .before .before .before .before in
-    parts (s .args .g) (s .pre .0) (c .magnitude .result) (rw (got c .0) (s .pre .2 (c .before .before .before .loop .i)))
+    parts (s .args .g) (s .pre .0) (c .magnitude .result)
+    (rw (got c .0) (s .pre .2 (c .before .before .before .loop .i)))
 
 mul-x : tie.Need-mul-x Inv-loop μ-loop
 mul-x c = record { fits = omega (arith, bounds (c .before) .first) }
@@ -73,12 +77,15 @@ added : (c : tie.After-magnitude Inv-loop μ-loop)
     l .sum + zeroError g (c .magnitude .result) * zeroError g (c .magnitude .result) ≤ (l .i + 1) * mostSquare g)
 added c =
     let l = c .before .before .before .loop in
-    squares-next (l .i) (mostSquare (c .before .before .before .before .args .g)) (l .sum) _ (l .inv .2) (bounds c .square)
+    squares-next (l .i) (mostSquare (c .before .before .before .before .args .g)) (l .sum) _ (l .inv .2)
+    (bounds c .square)
 
-fitting : (c : tie.After-magnitude Inv-loop μ-loop) → (c .before .before .before .loop .i + 1) * mostSquare (c .before .before .before .before .args .g) ≤ 2 ^ 63
+fitting : (c : tie.After-magnitude Inv-loop μ-loop)
+    → (c .before .before .before .loop .i + 1) * mostSquare (c .before .before .before .before .args .g) ≤ 2 ^ 63
 fitting c =
     let s = c .before .before .before .before in
-    squares-fit (s .args .g) (length (s .args .part .now)) (c .before .before .before .loop .i + 1) (omega (arith, c .before .before .loop-test .taken)) (s .pre .1)
+    squares-fit (s .args .g) (length (s .args .part .now)) (c .before .before .before .loop .i + 1)
+    (omega (arith, c .before .before .loop-test .taken)) (s .pre .1)
 
 add-sum : tie.Need-add-sum Inv-loop μ-loop
 add-sum c = record { fits = omega (arith, added (c .before .before), fitting (c .before .before)) }
@@ -95,7 +102,8 @@ loop-again c =
     let l = c .before .before .before .before .before .loop in
     let lt = c .before .before .before .before .loop-test .taken in
     let z = getD (s .args .part .now) (l .i) (pos 0) in
-    let e : zeroError (s .args .g) (c .before .before .magnitude .result) * zeroError (s .args .g) (c .before .before .magnitude .result) ≡ zeroDistortion (s .args .g) z =
+    let e : zeroError (s .args .g) (c .before .before .magnitude .result) * zeroError (s .args .g)
+    (c .before .before .magnitude .result) ≡ zeroDistortion (s .args .g) z =
     rw (got (c .before .before) .0) (zero-distortion (s .args .g) (s .pre .0) z) in (
       omega arith,
       rw e (over-next nats (zeroDistortion (s .args .g)) (s .args .part .now) (l .i) (pos 0) (l .sum) lt ∙ l .inv .1),
@@ -106,7 +114,8 @@ returns : tie.Need-returns Inv-loop μ-loop
 returns c =
     let s = c .before .before in
     let l = c .before .loop in (
-      sym (over-end nats (zeroDistortion (s .args .g)) (s .args .part .now) (l .i) (l .sum) (c .loop-test .left)) ∙ l .inv .1,
+      sym (over-end nats (zeroDistortion (s .args .g)) (s .args .part .now) (l .i) (l .sum) (c .loop-test .left))
+          ∙ l .inv .1,
       omega (arith, l .inv .2, squares-fit (s .args .g) (length (s .args .part .now)) (l .i) (l .inv .0) (s .pre .1)),
     )
 

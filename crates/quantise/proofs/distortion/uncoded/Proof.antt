@@ -51,18 +51,24 @@ squares-requires c κs =
     let e = c .before .part-end .result in
     let most = c .before .before .before .before .part-length in
     let short : length (take (e - i) (drop i (s .args .block .now))) ≤ most .result =
-    omega (arith, part-short (e - i) (drop i (s .args .block .now)), c .before .part-end .ensures .short) in
-    (s .pre .0, omega (arith, mul-le-mul-right (s .args .g .front * s .args .g .front) short, most .ensures .1), within-part (s .args .block .now) 32767 i (e - i) (s .pre .1))
+    omega (arith, part-short (e - i) (drop i (s .args .block .now)), c .before .part-end .ensures .short) in (
+      s .pre .0,
+      omega (arith, mul-le-mul-right (s .args .g .front * s .args .g .front) short, most .ensures .1),
+      within-part (s .args .block .now) 32767 i (e - i) (s .pre .1),
+    )
 
 -- what is left is the part and what is behind it
 left : (c : tie.After-squares Inv-loop μ-loop)
-    → (let a = c .before .before .before .before .before .before .args in let l = c .before .before .before .before .loop in let e = c .before .before .part-end .result in
-    over onℕ (zeroDistortion (a .g)) (drop (l .i) (a .block .now)) ≡ c .squares .result + over onℕ (zeroDistortion (a .g)) (drop e (a .block .now)))
+    → (let a = c .before .before .before .before .before .before .args in let l = c .before .before .before .before
+    .loop in let e = c .before .before .part-end .result in
+    over onℕ (zeroDistortion (a .g)) (drop (l .i) (a .block .now))
+    ≡ c .squares .result + over onℕ (zeroDistortion (a .g)) (drop e (a .block .now)))
 left c =
     let a = c .before .before .before .before .before .before .args in
     let l = c .before .before .before .before .loop in
     let e = c .before .before .part-end .result in
-    over-part nats (zeroDistortion (a .g)) (a .block .now) (l .i) e (omega (arith, c .before .before .part-end .ensures .on))
+    over-part nats (zeroDistortion (a .g)) (a .block .now) (l .i) e
+    (omega (arith, c .before .before .part-end .ensures .on))
     ∙ ap (λ (x : ℕ). x + over onℕ (zeroDistortion (a .g)) (drop e (a .block .now))) (sym (c .squares .ensures .0))
 
 add-d : tie.Need-add-d Inv-loop μ-loop
@@ -73,22 +79,30 @@ loop-less c = search needs
 
 loop-again : tie.Need-loop-again Inv-loop μ-loop
 loop-again c =
-    let l = c .before .before .before .before .before .loop in
-    (c .before .before .before .part-end .ensures .inside, adding-more (l .d) _ _ _ _ (c .if1 .taken) (left (c .before)) (l .inv .1))
+    let l = c .before .before .before .before .before .loop in (
+      c .before .before .before .part-end .ensures .inside,
+      adding-more (l .d) _ _ _ _ (c .if1 .taken) (left (c .before))
+          (l .inv .1),
+    )
 
 loop-less-2 : tie.Need-loop-less-2 Inv-loop μ-loop
 loop-less-2 c = search needs
 
 loop-again-2 : tie.Need-loop-again-2 Inv-loop μ-loop
 loop-again-2 c =
-    let l = c .before .before .before .before .before .loop in
-    (c .before .before .before .part-end .ensures .inside, adding-held (l .d) _ _ _ _ (c .if1 .left) (left (c .before)) (l .inv .1))
+    let l = c .before .before .before .before .before .loop in (
+      c .before .before .before .part-end .ensures .inside,
+      adding-held (l .d) _ _ _ _ (c .if1 .left) (left (c .before))
+          (l .inv .1),
+    )
 
 returns : tie.Need-returns Inv-loop μ-loop
 returns c =
     let s = c .before .before .before in
     let l = c .before .loop in
-    adding-done (l .d) _ (subst (λ (x : ℕ). Adding (l .d) x (over onℕ (zeroDistortion (s .args .g)) (s .args .block .now))) (over-behind onℕ (zeroDistortion (s .args .g)) (s .args .block .now) (l .i) (c .loop-test .left)) (l .inv .1))
+    adding-done (l .d) _
+    (subst (λ (x : ℕ). Adding (l .d) x (over onℕ (zeroDistortion (s .args .g)) (s .args .block .now)))
+    (over-behind onℕ (zeroDistortion (s .args .g)) (s .args .block .now) (l .i) (c .loop-test .left)) (l .inv .1))
 
 pub uncoded-spec : {M : Type 1} → statement M
 uncoded-spec =

@@ -51,7 +51,8 @@ returns : tie.Need-returns
 returns c =
     let w = c .before .before in
     let s = start-walk (w .before) in
-    subst (λ (m : Mode). ChosenAs m (s .args .p) (s .args .g) (s .args .d) (s .args .side) (s .args .kept .now) (w .choose-levels .last .1 .0) (w .choose-levels .result))
+    subst (λ (m : Mode). ChosenAs m (s .args .p) (s .args .g) (s .args .d) (s .args .side) (s .args .kept .now)
+    (w .choose-levels .last .1 .0) (w .choose-levels .result))
     (sym (w .before .before .before .before .enum-told .given .1))
     (w .choose-levels .ensures)
 
@@ -62,7 +63,8 @@ returns-2 : tie.Need-returns-2
 returns-2 c =
     let w = c .before .before in
     let s = start-search (w .before) in
-    subst (λ (m : Mode). ChosenAs m (s .args .p) (s .args .g) (s .args .d) (s .args .side) (s .args .kept .now) (w .find-levels .last .1 .0) (w .find-levels .result))
+    subst (λ (m : Mode). ChosenAs m (s .args .p) (s .args .g) (s .args .d) (s .args .side) (s .args .kept .now)
+    (w .find-levels .last .1 .0) (w .find-levels .result))
     (sym (w .before .before .enum-told2 .given .1))
     (w .find-levels .ensures)
 

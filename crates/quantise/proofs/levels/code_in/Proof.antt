@@ -30,7 +30,8 @@ side-is : (s : tie.Start) → sideBy s ≡ 2 ^ (s .args .log2-side)
 side-is s = bit (s .args .log2-side) (omega (arith, s .pre .1))
 
 codable : (s : tie.Start) → Codable (s .args .p) (s .args .g) (sideBy s) (s .args .block .now) (s .args .d)
-codable s = subst (λ (k : ℕ). Codable (s .args .p) (s .args .g) k (s .args .block .now) (s .args .d)) (sym (side-is s)) (s .pre .2)
+codable s = subst (λ (k : ℕ). Codable (s .args .p) (s .args .g) k (s .args .block .now) (s .args .d)) (sym (side-is s))
+    (s .pre .2)
 
 scanned : (c : tie.After-fill-scan) → Scanned (sideBy (start c)) (c .fill-scan .last .1 .0)
 scanned c = let s = start c in scan-held (s .args .log2-side) (s .pre .1) _ _ (side-is s) (c .fill-scan .ensures)
@@ -60,7 +61,8 @@ choose-requires c κs =
     let f = filling k in
     let s = start f in (
       omega (arith, side-is s, pow-mono {i = s .args .log2-side} {j = 5} (s .pre .1)),
-      findable (s .args .p) (s .args .g) (sideBy s) (s .args .block .now) (s .args .d) _ (scanned f) (codable s) _ _ (k .keep .ensures) _ (s .pre .5 ∙ codable s .room) (s .pre .6),
+      findable (s .args .p) (s .args .g) (sideBy s) (s .args .block .now) (s .args .d) _ (scanned f) (codable s) _ _
+          (k .keep .ensures) _ (s .pre .5 ∙ codable s .room) (s .pre .6),
     )
 
 put-signs-requires : tie.Need-put-signs-requires
@@ -69,9 +71,11 @@ put-signs-requires c κs =
     let k = keeping w in
     let f = filling k in
     let s = start f in (
-      room-left (s .args .p) (s .args .g) (sideBy s) (s .args .block .now) (s .args .d) _ (scanned f) (codable s) _ _ (k .keep .ensures) (s .args .mode) _ _ (w .choose .ensures) ∙ sym (codable s .room),
+      room-left (s .args .p) (s .args .g) (sideBy s) (s .args .block .now) (s .args .d) _ (scanned f) (codable s) _ _
+          (k .keep .ensures) (s .args .mode) _ _ (w .choose .ensures) ∙ sym (codable s .room),
       omega (arith, s .pre .2 .room, area-range 5 (s .args .log2-side) (s .pre .1)),
-      level-small (s .args .p) (s .args .g) (sideBy s) (s .args .block .now) (s .args .d) _ (scanned f) (codable s) _ _ (k .keep .ensures) (s .args .mode) _ _ (w .choose .ensures),
+      level-small (s .args .p) (s .args .g) (sideBy s) (s .args .block .now) (s .args .d) _ (scanned f) (codable s) _ _
+          (k .keep .ensures) (s .args .mode) _ _ (w .choose .ensures),
     )
 
 same-length : tie.Need-same-length
@@ -93,9 +97,11 @@ returns c =
     let f = filling k in
     let s = start f in
     let put = c .before .put-signs in
-    subst (λ (n : ℕ). CodedAs (s .args .mode) (s .args .p) (s .args .g) n (s .args .block .now) (put .last .0) (record { count = put .result; price = w .choose .result }))
+    subst (λ (n : ℕ). CodedAs (s .args .mode) (s .args .p) (s .args .g) n (s .args .block .now) (put .last .0)
+    (record { count = put .result; price = w .choose .result }))
     (side-is s)
-    (coded-as (s .args .p) (s .args .g) (sideBy s) (s .args .block .now) (s .args .d) _ (scanned f) (codable s) _ _ (k .keep .ensures) (s .args .mode) _ _ (w .choose .ensures)
+    (coded-as (s .args .p) (s .args .g) (sideBy s) (s .args .block .now) (s .args .d) _ (scanned f) (codable s) _ _
+    (k .keep .ensures) (s .args .mode) _ _ (w .choose .ensures)
     (put .last .0) (put .result) (put .ensures .0) (put .ensures .1))
 
 pub code-in-spec : {M : Type 1} → statement M

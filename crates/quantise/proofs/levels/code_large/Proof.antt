@@ -15,7 +15,8 @@ fits : (s : tie.Start) → length (s .args .block .now) ≤ 1024
 fits s = omega (arith, area-range 5 (s .args .log2-side) (s .pre .1), s .pre .2 .room)
 
 -- the part of a room that is lent has the block's length
-lent : (s : tie.Start) → length (take {A = ℕ} (length (s .args .block .now)) (replicate 1024 0)) ≡ length (s .args .block .now)
+lent : (s : tie.Start) → length (take {A = ℕ} (length (s .args .block .now)) (replicate 1024 0))
+    ≡ length (s .args .block .now)
 lent s = length-take-le (length (s .args .block .now)) (replicate 1024 0) (fits s)
 
 array-borrow-prefix-scan : tie.Need-array-borrow-prefix-scan
@@ -38,8 +39,15 @@ slice-aggregate-code-in-3 c = sym (lent (c .before .before .before .before))
 
 code-in-requires : tie.Need-code-in-requires
 code-in-requires c κs =
-    let s = c .before .before .before .before in
-    (s .pre .0, omega (arith, s .pre .1), s .pre .2, lent s, lent s, lent s, cleared (length (s .args .block .now)) 1024)
+    let s = c .before .before .before .before in (
+      s .pre .0,
+      omega (arith, s .pre .1),
+      s .pre .2,
+      lent s,
+      lent s,
+      lent s,
+      cleared (length (s .args .block .now)) 1024,
+    )
 
 same-length : tie.Need-same-length
 same-length c = search needs

@@ -15,7 +15,8 @@ fits : (s : tie.Start) → length (s .args .block .now) ≤ 256
 fits s = omega (arith, area-range 4 (s .args .log2-side) (s .pre .1), s .pre .2 .room)
 
 -- the part of a room that is lent has the block's length
-lent : (s : tie.Start) → length (take {A = ℕ} (length (s .args .block .now)) (replicate 256 0)) ≡ length (s .args .block .now)
+lent : (s : tie.Start) → length (take {A = ℕ} (length (s .args .block .now)) (replicate 256 0))
+    ≡ length (s .args .block .now)
 lent s = length-take-le (length (s .args .block .now)) (replicate 256 0) (fits s)
 
 array-borrow-prefix-scan : tie.Need-array-borrow-prefix-scan

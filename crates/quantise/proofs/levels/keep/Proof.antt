@@ -21,7 +21,8 @@ use Rattle.quantise.proofs.levels.keep.Tie as tie
 
 abbrev Inv-loop : tie.InvT-loop
 Inv-loop block kept₀ g count₀ i₀ kept count i =
-    (i ≤ length block) × (length kept ≡ length block) × Filled 0 kept (λ j. keptOf g (at block j)) i × (count ≡ nonzeros (take i kept)) × (count ≤ i)
+    (i ≤ length block) × (length kept ≡ length block) × Filled 0 kept (λ j. keptOf g (at block j)) i
+    × (count ≡ nonzeros (take i kept)) × (count ≤ i)
 
 abbrev μ-loop : tie.MeasureT-loop
 μ-loop block kept₀ g count₀ i₀ kept count i = length block - i
@@ -40,10 +41,12 @@ magnitude-requires : tie.Need-magnitude-requires Inv-loop μ-loop
 magnitude-requires c κs = search needs
 
 got : (c : tie.After-magnitude Inv-loop μ-loop)
-    → (let z = getD (c .before .before .before .before .before .args .block .now) (c .before .before .before .loop .i) (pos 0) in
+    → (let z = getD (c .before .before .before .before .before .args .block .now) (c .before .before .before .loop .i)
+    (pos 0) in
     c .magnitude .result ≡ natAbs z)
 got c =
-    let z = getD (c .before .before .before .before .before .args .block .now) (c .before .before .before .loop .i) (pos 0) in
+    let z = getD (c .before .before .before .before .before .args .block .now) (c .before .before .before .loop .i)
+    (pos 0) in
     c .magnitude .ensures .0 ∙ ap natAbs (toZ-ofZ {w = w16} {z = z} (sfits-of (c .before .magnitude-arg .given)))
 
 cast-a : tie.Need-cast-a Inv-loop μ-loop
@@ -58,7 +61,15 @@ slice-write-kept c = search needs
 add-count : tie.Need-add-count Inv-loop μ-loop
 add-count c =
     let l = c .before .before .before .before .before .before .loop in
-    record { fits = omega (arith, l .inv .4, l .inv .0, c .before .before .before .before .before .before .before .before .pre .1) }
+    record {
+      fits = omega (
+        arith,
+        l .inv .4,
+        l .inv .0,
+        c .before .before .before .before .before .before .before
+            .before .pre .1,
+      );
+    }
 
 add-i : tie.Need-add-i Inv-loop μ-loop
 add-i c = omega arith
@@ -70,7 +81,8 @@ counted : (c : tie.Joined2 Inv-loop μ-loop)
     → c .if2 .count ≡ c .before .before .before .before .before .before .loop .count + ones (c .before .if1 .v)
 counted c =
     let n = c .before .before .before .before .before .before .loop .count in
-    ⊎-elim (λ w. w .1 ∙ ap (λ (x : ℕ). n + x) (sym (one-more _ (w .0 .taken)))) (λ w. w .1 ∙ omega (arith, none-more _ (w .0 .left))) (c .if2 .came)
+    ⊎-elim (λ w. w .1 ∙ ap (λ (x : ℕ). n + x) (sym (one-more _ (w .0 .taken)))) (λ w. w .1
+    ∙ omega (arith, none-more _ (w .0 .left))) (c .if2 .came)
 
 loop-again : tie.Need-loop-again Inv-loop μ-loop
 loop-again c =
@@ -82,8 +94,10 @@ loop-again c =
     let n = counted c in (
       omega arith,
       simp length-set (l .inv .1),
-      filled-more 0 (l .kept) (λ j. keptOf (s .args .g) (at (s .args .block .now) j)) (l .i) v (omega (arith, l .inv .1))
-          (⊎-elim (λ w. kept-yes (s .args .g) z _ _ m (w .0 .taken) (w .1)) (λ w. kept-no (s .args .g) z _ _ m (w .0 .left) (w .1)) (c .before .if1 .came))
+      filled-more 0 (l .kept) (λ j. keptOf (s .args .g) (at (s .args .block .now) j)) (l .i) v
+          (omega (arith, l .inv .1))
+          (⊎-elim (λ w. kept-yes (s .args .g) z _ _ m (w .0 .taken) (w .1))
+          (λ w. kept-no (s .args .g) z _ _ m (w .0 .left) (w .1)) (c .before .if1 .came))
           (l .inv .2),
       n ∙ ap (λ (k : ℕ). k + ones v) (l .inv .3) ∙ sym (nonzeros-filled (l .kept) (l .i) v (omega (arith, l .inv .1))),
       omega (arith, ones-few v, l .inv .4),

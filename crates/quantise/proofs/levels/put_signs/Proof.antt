@@ -21,7 +21,8 @@ use Rattle.quantise.proofs.levels.put_signs.Tie as tie
 
 abbrev Inv-loop : tie.InvT-loop
 Inv-loop block₀ levels count₀ i₀ block count i =
-    (i ≤ length levels) × Signing block₀ levels block i × (count + over onℕ ones (drop i levels) ≡ over onℕ ones levels) × (count ≤ i)
+    (i ≤ length levels) × Signing block₀ levels block i × (count + over onℕ ones (drop i levels) ≡ over onℕ ones levels)
+    × (count ≤ i)
 
 abbrev μ-loop : tie.MeasureT-loop
 μ-loop block₀ levels count₀ i₀ block count i = length levels - i
@@ -45,16 +46,32 @@ slice-copy-out-if1 : tie.Need-slice-copy-out-if1 Inv-loop μ-loop
 slice-copy-out-if1 c = omega (arith, c .before .before .loop .inv .1 .room, c .before .before .before .pre .0)
 
 sub-block : tie.Need-sub-block Inv-loop μ-loop
-sub-block c = minus-fits (pos 0) _ (record { sfits = omega arith }) (c .before .before .before .before .before .pre .2 (c .before .before .before .before .loop .i))
+sub-block c =
+    minus-fits (pos 0) _ (record { sfits = omega arith })
+    (c .before .before .before .before .before .pre .2 (c .before .before .before .before .loop .i))
 
 mul-t22 : tie.Need-mul-t22 Inv-loop μ-loop
 mul-t22 c = search needs
 
 slice-set-from-block : tie.Need-slice-set-from-block Inv-loop μ-loop
-slice-set-from-block c = omega (arith, c .before .before .before .before .loop .inv .1 .room, c .before .before .before .before .before .pre .0)
+slice-set-from-block c =
+    omega (
+      arith,
+      c .before .before .before .before .loop .inv .1 .room,
+      c .before .before .before .before .before .pre .0,
+    )
 
 add-count : tie.Need-add-count Inv-loop μ-loop
-add-count c = record { fits = omega (arith, c .before .before .before .before .before .loop .inv .3, c .before .before .before .before .before .before .pre .0, c .before .before .before .before .before .before .pre .1) }
+add-count c =
+    record {
+      fits = omega (
+        arith,
+        c .before .before .before .before .before .loop .inv .3,
+        c .before .before .before .before .before .before .pre .0,
+        c .before .before .before .before .before .before .pre
+            .1,
+      );
+    }
 
 add-i : tie.Need-add-i Inv-loop μ-loop
 add-i c = search needs
@@ -73,12 +90,16 @@ value c =
     let a = getD (s .args .levels .now) (l .i) 0 in
     let f : SFits w16 z = sfits-of (c .before .if12 .given) in
     let h = s .pre .2 (l .i) in
-    ⊎-elim (λ w. ap (toZ w16) (w .1) ∙ put-minus z a f h (w .0 .taken)) (λ w. ap (toZ w16) (w .1) ∙ put-plus z a f h (w .0 .left)) (c .if1 .came)
+    ⊎-elim (λ w. ap (toZ w16) (w .1) ∙ put-minus z a f h (w .0 .taken)) (λ w. ap (toZ w16) (w .1)
+    ∙ put-plus z a f h (w .0 .left)) (c .if1 .came)
     ∙ ap (λ (y : ℤ). signed y a) (l .inv .1 .left (l .i) (omega arith))
 
 counted : (c : tie.Joined2 Inv-loop μ-loop)
-    → c .if2 .count ≡ c .before .before .before .before .before .loop .count + ones (getD (c .before .before .before .before .before .before .args .levels .now) (c .before .before .before .before .before .loop .i) 0)
-counted c = ⊎-elim (λ w. w .1 ∙ ap (λ (x : ℕ). c .before .before .before .before .before .loop .count + x) (sym (one-more _ (w .0 .taken)))) (λ w. w .1 ∙ omega (arith, none-more _ (w .0 .left))) (c .if2 .came)
+    → c .if2 .count ≡ c .before .before .before .before .before .loop .count + ones
+    (getD (c .before .before .before .before .before .before .args .levels .now)
+    (c .before .before .before .before .before .loop .i) 0)
+counted c = ⊎-elim (λ w. w .1 ∙ ap (λ (x : ℕ). c .before .before .before .before .before .loop .count + x)
+    (sym (one-more _ (w .0 .taken)))) (λ w. w .1 ∙ omega (arith, none-more _ (w .0 .left))) (c .if2 .came)
 
 loop-again : tie.Need-loop-again Inv-loop μ-loop
 loop-again c =
@@ -102,8 +123,10 @@ returns : tie.Need-returns Inv-loop μ-loop
 returns c =
     let s = c .before .before in
     let l = c .before .loop in (
-      signing-all (s .args .block .now) (s .args .levels .now) (l .block) (l .i) (s .pre .0) (c .loop-test .left) (l .inv .1),
-      sym (over-end nats ones (s .args .levels .now) (l .i) (l .count) (c .loop-test .left)) ∙ l .inv .2 ∙ sym (nonzeros-over (s .args .levels .now)),
+      signing-all (s .args .block .now) (s .args .levels .now) (l .block) (l .i) (s .pre .0) (c .loop-test .left)
+          (l .inv .1),
+      sym (over-end nats ones (s .args .levels .now) (l .i) (l .count) (c .loop-test .left)) ∙ l .inv .2
+          ∙ sym (nonzeros-over (s .args .levels .now)),
     )
 
 pub put-signs-spec : {M : Type 1} → statement M

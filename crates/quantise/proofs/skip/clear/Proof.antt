@@ -12,7 +12,8 @@ use Rattle.quantise.proofs.skip.clear.Tie as tie
 
 abbrev Inv-loop : tie.InvT-loop
 Inv-loop block₀ n i₀ block i =
-    (i ≤ n) × (length block ≡ length block₀) × Filled (pos 0) block (λ j. getD (replicate (length block₀) (pos 0)) j (pos 0)) i
+    (i ≤ n) × (length block ≡ length block₀)
+    × Filled (pos 0) block (λ j. getD (replicate (length block₀) (pos 0)) j (pos 0)) i
 
 abbrev μ-loop : tie.MeasureT-loop
 μ-loop block₀ n i₀ block i = n - i
@@ -38,7 +39,8 @@ loop-again c =
     let n = length (c .before .before .args .block .now) in (
       omega arith,
       simp length-set (l .inv .1),
-      filled-more (pos 0) (l .block) (λ j. getD (replicate n (pos 0)) j (pos 0)) (l .i) (pos 0) (omega (arith, l .inv .1))
+      filled-more (pos 0) (l .block) (λ j. getD (replicate n (pos 0)) j (pos 0)) (l .i) (pos 0)
+          (omega (arith, l .inv .1))
           (sym (getD-replicate n (l .i) (pos 0) (pos 0) (omega arith)))
           (l .inv .2),
     )
@@ -50,7 +52,8 @@ returns : tie.Need-returns Inv-loop μ-loop
 returns c =
     let l = c .before .loop in
     let n = length (c .before .before .args .block .now) in
-    filled-all (pos 0) (l .block) (replicate n (pos 0)) (l .i) (l .inv .1 ∙ sym (length-replicate n (pos 0))) (omega (arith, l .inv .1)) (l .inv .2)
+    filled-all (pos 0) (l .block) (replicate n (pos 0)) (l .i) (l .inv .1 ∙ sym (length-replicate n (pos 0)))
+    (omega (arith, l .inv .1)) (l .inv .2)
 
 pub clear-spec : {M : Type 1} → statement M
 clear-spec =

@@ -61,9 +61,11 @@ loop-less c = search needs
 
 -- the part looked at reaches the threshold as its largest magnitude says
 part-reaches : (c : tie.After-largest Inv-loop μ-loop)
-    → (let a = c .before .before .before .before .before .args in let i = c .before .before .before .before .loop .i in let e = c .before .before .part-end .result in
+    → (let a = c .before .before .before .before .before .args in let i = c .before .before .before .before .loop
+    .i in let e = c .before .before .part-end .result in
     over onOr (reach (a .threshold) (a .q)) (drop i (a .block .now))
-    ≡ (leb (a .threshold) (c .largest .result * a .q) || over onOr (reach (a .threshold) (a .q)) (drop e (a .block .now))))
+    ≡ (leb (a .threshold) (c .largest .result * a .q)
+    || over onOr (reach (a .threshold) (a .q)) (drop e (a .block .now))))
 part-reaches c =
     let s = c .before .before .before .before .before in
     let a = s .args in
@@ -78,14 +80,18 @@ part-reaches c =
 loop-again : tie.Need-loop-again Inv-loop μ-loop
 loop-again c =
     let l = c .before .before .before .before .before .loop in
-    let no = lt-leb _ _ (c .if2 .left) in
-    (omega (arith, c .before .before .before .part-end .ensures .inside), sym (part-reaches (c .before) ∙ rw no) ∙ l .inv .1)
+    let no = lt-leb _ _ (c .if2 .left) in (
+      omega (arith, c .before .before .before .part-end .ensures .inside),
+      sym (part-reaches (c .before) ∙ rw no)
+          ∙ l .inv .1,
+    )
 
 returns : tie.Need-returns Inv-loop μ-loop
 returns c =
     let a = c .before .before .args in
     let l = c .before .loop in
-    sym (some-over (reach (a .threshold) (a .q)) (a .block .now) ∙ sym (l .inv .1) ∙ over-behind onOr (reach (a .threshold) (a .q)) (a .block .now) (l .i) (c .if1 .taken))
+    sym (some-over (reach (a .threshold) (a .q)) (a .block .now) ∙ sym (l .inv .1)
+    ∙ over-behind onOr (reach (a .threshold) (a .q)) (a .block .now) (l .i) (c .if1 .taken))
 
 returns-2 : tie.Need-returns-2 Inv-loop μ-loop
 returns-2 c =

@@ -1,4 +1,5 @@
--- `quantise::skip::largest` meets its contract: the loop holds the largest of what it passed, and by it whether -32768 was there.
+-- `quantise::skip::largest` meets its contract: the loop holds the largest of what it passed, and by it whether -32768
+-- was there.
 -- Assumes nothing.
 use mathlib.Core.Path.{_≡_, refl, sym, ap, _∙_}
 use mathlib.Core.Bool.{Bool, true, false, _||_}

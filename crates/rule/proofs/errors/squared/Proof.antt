@@ -15,9 +15,11 @@ sub-d : tie.Need-sub-d
 sub-d c = search needs
 
 ways : (c : tie.Joined1)
-    → (let s = c .before .before in Gap (s .args .g) (s .pre .0) (s .args .l) (s .args .a) (s .pre .1) (c .if1 .d) (c .if1 .up))
+    → (let s = c .before .before in Gap (s .args .g) (s .pre .0) (s .args .l) (s .args .a) (s .pre .1) (c .if1 .d)
+    (c .if1 .up))
 ways c =
-    ⊎-elim (λ w. inl (omega arith, omega arith, omega arith)) (λ w. inr (omega arith, omega arith, omega arith)) (c .if1 .came)
+    ⊎-elim (λ w. inl (omega arith, omega arith, omega arith)) (λ w. inr (omega arith, omega arith, omega arith))
+    (c .if1 .came)
 
 mul-x : tie.Need-mul-x
 mul-x c =

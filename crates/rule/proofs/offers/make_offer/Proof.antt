@@ -16,7 +16,16 @@ add-m : tie.Need-add-m
 add-m c =
     let s = c .before in
     let h = s .pre .1 in
-    record { fits = omega (arith, s .pre .2 .near, mul-le-mul-left (s .args .l) (h .some-error), h .twice, h .unit, unit-range (s .args .g .shift) (h .high)) }
+    record {
+      fits = omega (
+        arith,
+        s .pre .2 .near,
+        mul-le-mul-left (s .args .l) (h .some-error),
+        h .twice,
+        h .unit,
+        unit-range (s .args .g .shift) (h .high),
+      );
+    }
 
 cast-m : tie.Need-cast-m
 cast-m c = search needs
@@ -26,13 +35,20 @@ shr-m c = search needs
 
 squared-requires : tie.Need-squared-requires
 squared-requires c κs =
-    let s = c .before .before in
-    (s .pre .1, near-below (s .args .p) (s .args .g) (s .args .l) (s .pre .1) (s .pre .2) _ (le-of-eq (rounding (s .args .g) (s .pre .1) (s .args .l))))
+    let s = c .before .before in (
+      s .pre .1,
+      near-below (s .args .p) (s .args .g) (s .args .l) (s .pre .1) (s .pre .2) _
+          (le-of-eq (rounding (s .args .g) (s .pre .1) (s .args .l))),
+    )
 
 level-at-requires : tie.Need-level-at-requires
 level-at-requires c κs =
-    let s = c .before .before .before in
-    (subst (λ (k : ℕ). 1 ≤ k) (sym (rounding (s .args .g) (s .pre .1) (s .args .l))) (s .pre .3), s .pre .0, each-below (s .args .p) (s .args .g) (s .args .l) (s .pre .1) (s .pre .2) _ (le-of-eq (rounding (s .args .g) (s .pre .1) (s .args .l))))
+    let s = c .before .before .before in (
+      subst (λ (k : ℕ). 1 ≤ k) (sym (rounding (s .args .g) (s .pre .1) (s .args .l))) (s .pre .3),
+      s .pre .0,
+      each-below (s .args .p) (s .args .g) (s .args .l) (s .pre .1) (s .pre .2) _
+          (le-of-eq (rounding (s .args .g) (s .pre .1) (s .args .l))),
+    )
 
 add-c : tie.Need-add-c
 add-c c = search needs
@@ -42,7 +58,8 @@ returns c =
     let s = c .before .before .before .before .before in
     let x = c .before .before .squared .ensures in
     let y = c .before .level-at .ensures in
-    offer-one (s .args .p) (s .args .g) (s .args .l) _ _ _ (rounding (s .args .g) (s .pre .1) (s .args .l)) (c .if1 .taken) (bare-is (s .args .p) (s .args .g) (s .args .l) _ _ _ x y)
+    offer-one (s .args .p) (s .args .g) (s .args .l) _ _ _ (rounding (s .args .g) (s .pre .1) (s .args .l))
+    (c .if1 .taken) (bare-is (s .args .p) (s .args .g) (s .args .l) _ _ _ x y)
     (omega (arith, x .small, y .small))
 
 sub-n : tie.Need-sub-n
@@ -53,14 +70,20 @@ sub-n c =
 squared-below-requires : tie.Need-squared-below-requires
 squared-below-requires c κs =
     let s = c .before .before .before .before .before in
-    let e = (rounding (s .args .g) (s .pre .1) (s .args .l)) in
-    (s .pre .1, near-below (s .args .p) (s .args .g) (s .args .l) (s .pre .1) (s .pre .2) _ (omega arith), rw e (within (s .args .p) (s .args .g) (s .args .l) (s .pre .1) (s .pre .2)))
+    let e = (rounding (s .args .g) (s .pre .1) (s .args .l)) in (
+      s .pre .1,
+      near-below (s .args .p) (s .args .g) (s .args .l) (s .pre .1) (s .pre .2) _ (omega arith),
+      rw e (within (s .args .p) (s .args .g) (s .args .l) (s .pre .1) (s .pre .2)),
+    )
 
 level-at-requires-2 : tie.Need-level-at-requires-2
 level-at-requires-2 c κs =
     let s = c .before .before .before .before .before .before in
-    let e = (rounding (s .args .g) (s .pre .1) (s .args .l)) in
-    (some-left _ _ (c .before .if1 .left) (subst (λ (k : ℕ). 1 ≤ k) (sym e) (s .pre .3)) refl, s .pre .0, each-below (s .args .p) (s .args .g) (s .args .l) (s .pre .1) (s .pre .2) _ (omega arith))
+    let e = (rounding (s .args .g) (s .pre .1) (s .args .l)) in (
+      some-left _ _ (c .before .if1 .left) (subst (λ (k : ℕ). 1 ≤ k) (sym e) (s .pre .3)) refl,
+      s .pre .0,
+      each-below (s .args .p) (s .args .g) (s .args .l) (s .pre .1) (s .pre .2) _ (omega arith),
+    )
 
 add-d : tie.Need-add-d
 add-d c = search needs
@@ -82,7 +105,8 @@ returns-2 c =
     let x = one w .before .before .squared .ensures in
     let y = one w .before .level-at .ensures in
     let e = rounding (s .args .g) (s .pre .1) (s .args .l) in
-    offer-less (s .args .p) (s .args .g) (s .args .l) _ _ _ _ _ e (one w .if1 .left) (subst (λ (k : ℕ). 1 ≤ k) (sym e) (s .pre .3)) refl
+    offer-less (s .args .p) (s .args .g) (s .args .l) _ _ _ _ _ e (one w .if1 .left)
+    (subst (λ (k : ℕ). 1 ≤ k) (sym e) (s .pre .3)) refl
     (bare-is (s .args .p) (s .args .g) (s .args .l) _ _ _ x y)
     (bare-is (s .args .p) (s .args .g) (s .args .l) _ _ _ (w .before .squared-below .ensures) (w .level-at2 .ensures))
     (omega (arith, x .small, y .small)) (c .if2 .taken)
@@ -94,7 +118,8 @@ returns-3 c =
     let x = one w .before .before .squared .ensures in
     let y = one w .before .level-at .ensures in
     let e = rounding (s .args .g) (s .pre .1) (s .args .l) in
-    offer-tied (s .args .p) (s .args .g) (s .args .l) _ _ _ _ _ e (one w .if1 .left) (subst (λ (k : ℕ). 1 ≤ k) (sym e) (s .pre .3)) refl
+    offer-tied (s .args .p) (s .args .g) (s .args .l) _ _ _ _ _ e (one w .if1 .left)
+    (subst (λ (k : ℕ). 1 ≤ k) (sym e) (s .pre .3)) refl
     (bare-is (s .args .p) (s .args .g) (s .args .l) _ _ _ x y)
     (bare-is (s .args .p) (s .args .g) (s .args .l) _ _ _ (w .before .squared-below .ensures) (w .level-at2 .ensures))
     (omega (arith, x .small, y .small)) (c .before .if3 .taken) (c .if4 .taken)
@@ -106,10 +131,12 @@ returns-4 c =
     let x = one w .before .before .squared .ensures in
     let y = one w .before .level-at .ensures in
     let e = rounding (s .args .g) (s .pre .1) (s .args .l) in
-    offer-upper (s .args .p) (s .args .g) (s .args .l) _ _ _ _ _ e (one w .if1 .left) (subst (λ (k : ℕ). 1 ≤ k) (sym e) (s .pre .3)) refl
+    offer-upper (s .args .p) (s .args .g) (s .args .l) _ _ _ _ _ e (one w .if1 .left)
+    (subst (λ (k : ℕ). 1 ≤ k) (sym e) (s .pre .3)) refl
     (bare-is (s .args .p) (s .args .g) (s .args .l) _ _ _ x y)
     (bare-is (s .args .p) (s .args .g) (s .args .l) _ _ _ (w .before .squared-below .ensures) (w .level-at2 .ensures))
-    (omega (arith, x .small, y .small)) (inr (omega (arith, c .before .before .if2 .left, c .if4 .left))) (c .before .before .if2 .left)
+    (omega (arith, x .small, y .small)) (inr (omega (arith, c .before .before .if2 .left, c .if4 .left)))
+    (c .before .before .if2 .left)
 
 returns-5 : tie.Need-returns-5
 returns-5 c =
@@ -118,7 +145,8 @@ returns-5 c =
     let x = one w .before .before .squared .ensures in
     let y = one w .before .level-at .ensures in
     let e = rounding (s .args .g) (s .pre .1) (s .args .l) in
-    offer-upper (s .args .p) (s .args .g) (s .args .l) _ _ _ _ _ e (one w .if1 .left) (subst (λ (k : ℕ). 1 ≤ k) (sym e) (s .pre .3)) refl
+    offer-upper (s .args .p) (s .args .g) (s .args .l) _ _ _ _ _ e (one w .if1 .left)
+    (subst (λ (k : ℕ). 1 ≤ k) (sym e) (s .pre .3)) refl
     (bare-is (s .args .p) (s .args .g) (s .args .l) _ _ _ x y)
     (bare-is (s .args .p) (s .args .g) (s .args .l) _ _ _ (w .before .squared-below .ensures) (w .level-at2 .ensures))
     (omega (arith, x .small, y .small)) (inl (c .if3 .left)) (c .before .if2 .left)

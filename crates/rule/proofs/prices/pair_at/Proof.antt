@@ -37,7 +37,9 @@ mul-t13 c =
     record { fits = omega (arith, weighed (s .args .lambda) _ (s .pre .2) (s .pre .1 (2 * s .args .row + 1))) }
 
 returns : tie.Need-returns
-returns c = let s = c .before .before in pair-of (s .args .lambda) (s .args .table .now) (s .args .row) _ (s .pre .2) (s .pre .1) refl refl
+returns c = let s =
+    c .before .before in pair-of (s .args .lambda) (s .args .table .now) (s .args .row) _ (s .pre .2) (s .pre .1)
+    refl refl
 
 pub pair-at-spec : {M : Type 1} → statement M
 pair-at-spec =

@@ -60,46 +60,79 @@ pair-at-requires-4 c κs =
     (omega (arith, s .pre .1 .level, level-long s), s .pre .0 .level, s .pre .2)
 
 slice-aggregate-pair-at-5 : tie.Need-slice-aggregate-pair-at-5
-slice-aggregate-pair-at-5 c = let ok = c .before .before .before .before .before .before .before .before .before .before .before .before .before .before .good in search needs
+slice-aggregate-pair-at-5 c = let ok =
+    c .before .before .before .before .before .before .before .before .before .before .before .before .before .before
+    .good in search needs
 
 pair-at-requires-5 : tie.Need-pair-at-requires-5
 pair-at-requires-5 c κs =
-    let s = c .before .before .before .before .before .before .before .before .before .before .before .before .before .before in
+    let s = c .before .before .before .before .before .before .before .before .before .before .before .before .before
+    .before in
     (omega (arith, s .pre .1 .last, last-long s), s .pre .0 .last, s .pre .2)
 
 slice-aggregate-pair-at-6 : tie.Need-slice-aggregate-pair-at-6
-slice-aggregate-pair-at-6 c = let ok = c .before .before .before .before .before .before .before .before .before .before .before .before .before .before .before .before .before .good in search needs
+slice-aggregate-pair-at-6 c = let ok =
+    c .before .before .before .before .before .before .before .before .before .before .before .before .before .before
+    .before .before .before .good in search needs
 
 pair-at-requires-6 : tie.Need-pair-at-requires-6
 pair-at-requires-6 c κs =
-    let s = c .before .before .before .before .before .before .before .before .before .before .before .before .before .before .before .before .before in
+    let s = c .before .before .before .before .before .before .before .before .before .before .before .before .before
+    .before .before .before .before in
     (omega (arith, s .pre .1 .cbf, cbf-long s), s .pre .0 .cbf, s .pre .2)
 
 mul-sign : tie.Need-mul-sign
 mul-sign c =
-    record { fits = omega (arith, c .before .before .before .before .before .before .before .before .before .before .before .before .before .before .before .before .before .before .pre .2) }
+    record {
+      fits = omega (
+        arith,
+        c .before .before .before .before .before .before .before .before .before .before
+            .before .before .before .before .before .before .before .before .pre .2,
+      );
+    }
 
 add-t28 : tie.Need-add-t28
 add-t28 c =
-    record { fits = omega (arith, c .before .before .before .before .before .before .before .before .before .before .before .before .before .before .before .before .before .before .before .pre .2, c .before .before .before .before .before .before .before .before .before .before .before .before .before .before .before .before .pair-at .ensures .first-small) }
+    record {
+      fits = omega (
+        arith,
+        c .before .before .before .before .before .before .before .before .before .before
+            .before .before .before .before .before .before .before .before .before .pre .2,
+        c .before .before .before .before .before .before .before .before .before .before .before .before .before
+            .before .before .before .pair-at .ensures .first-small,
+      );
+    }
 
 add-t29 : tie.Need-add-t29
 add-t29 c =
-    record { fits = omega (arith, c .before .before .before .before .before .before .before .before .before .before .before .before .before .before .before .before .before .before .before .before .pre .2, c .before .before .before .before .before .before .before .before .before .before .before .before .before .before .pair-at2 .ensures .first-small) }
+    record {
+      fits = omega (
+        arith,
+        c .before .before .before .before .before .before .before .before .before .before
+            .before .before .before .before .before .before .before .before .before .before .pre .2,
+        c .before .before .before .before .before .before .before .before .before .before .before .before .before
+            .before .pair-at2 .ensures .first-small,
+      );
+    }
 
 add-t30 : tie.Need-add-t30
 add-t30 c = search needs
 
 returns : tie.Need-returns
 returns c =
-    let s = c .before .before .before .before .before .before .before .before .before .before .before .before .before .before .before .before .before .before .before .before .before .before in
-    let run = c .before .before .before .before .before .before .before .before .before .before .before .before .before .before .before .before .before .before .before .pair-at .ensures in
-    let runs = c .before .before .before .before .before .before .before .before .before .before .before .before .before .before .before .before .pair-at2 .ensures in
-    let low = c .before .before .before .before .before .before .before .before .before .before .before .before .before .pair-at3 .ensures in
+    let s = c .before .before .before .before .before .before .before .before .before .before .before .before .before
+    .before .before .before .before .before .before .before .before .before in
+    let run = c .before .before .before .before .before .before .before .before .before .before .before .before .before
+    .before .before .before .before .before .before .pair-at .ensures in
+    let runs = c .before .before .before .before .before .before .before .before .before .before .before .before .before
+    .before .before .before .pair-at2 .ensures in
+    let low = c .before .before .before .before .before .before .before .before .before .before .before .before .before
+    .pair-at3 .ensures in
     let high = c .before .before .before .before .before .before .before .before .before .before .pair-at4 .ensures in
     let ends = c .before .before .before .before .before .before .before .pair-at5 .ensures in
     let cbf = c .before .before .before .before .pair-at6 .ensures in
-    prices-are 32768 (s .args .lambda) (s .args .costs) (rowsIn (s .args .at)) _ _ _ _ _ _ (s .pre .2) (omega arith) run runs low high ends cbf
+    prices-are 32768 (s .args .lambda) (s .args .costs) (rowsIn (s .args .at)) _ _ _ _ _ _ (s .pre .2) (omega arith)
+    run runs low high ends cbf
 
 pub prices-of-spec : {M : Type 1} → statement M
 prices-of-spec =

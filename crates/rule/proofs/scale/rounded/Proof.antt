@@ -18,7 +18,15 @@ add-result : tie.Need-add-result
 add-result c =
     let s = c .before .before in
     let h = s .pre .0 in
-    record { fits = omega (arith, mul-le-mul (s .pre .1) (h .wide-q), h .twice, h .unit, unit-range (s .args .g .shift) (h .high)) }
+    record {
+      fits = omega (
+        arith,
+        mul-le-mul (s .pre .1) (h .wide-q),
+        h .twice,
+        h .unit,
+        unit-range (s .args .g .shift) (h .high),
+      );
+    }
 
 cast-result-2 : tie.Need-cast-result-2
 cast-result-2 c = search needs

@@ -6,7 +6,8 @@ use native.Mathlib.Omega.{arith}
 use borrow.Author.Needs.{needs}
 use Rattle.tables.specs.Scales.{forward, scaleOf, errorScale}
 use Rattle.price.specs.Level.{shiftOf}
-use Rattle.rule.proofs.Scaling.{bit, scale-range, shift-range, front-range, error-range, half-range, least-range, scale-sound}
+use Rattle.rule.proofs.Scaling.{bit, scale-range, shift-range, front-range, error-range, half-range, least-range}
+use Rattle.rule.proofs.Scaling.{scale-sound}
 use Rattle.rule.proofs.scale.scale_of.Statement.{statement}
 use Rattle.rule.proofs.scale.scale_of.Tie as tie
 
@@ -55,11 +56,13 @@ shl-front c = search needs
 -- q·E and front·2^20, by what the tables say
 product : (c : tie.After-error-scale)
     → c .before .scale .result * c .error-scale .result
-    ≡ scaleOf forward (c .before .before .args .qp) * errorScale (c .before .before .args .log2-side) (scaleOf forward (c .before .before .args .qp))
+    ≡ scaleOf forward (c .before .before .args .qp) * errorScale (c .before .before .args .log2-side)
+    (scaleOf forward (c .before .before .args .qp))
 product c = rw (c .before .scale .ensures, c .error-scale .ensures)
 
 mul-rest : tie.Need-mul-rest
-mul-rest c = record { fits = omega (arith, front-range (c .before .before .args .log2-side) (c .before .before .pre .1)) }
+mul-rest c = record
+    { fits = omega (arith, front-range (c .before .before .args .log2-side) (c .before .before .pre .1)) }
 
 cast-rest : tie.Need-cast-rest
 cast-rest c = search needs
@@ -98,13 +101,22 @@ div-least : tie.Need-div-least
 div-least c = omega (arith, scale-range (c .before .before .args .qp), c .before .scale .ensures)
 
 cast-t14 : tie.Need-cast-t14
-cast-t14 c = record { fits = omega (arith, front-range (c .before .before .args .log2-side) (c .before .before .pre .1)) }
+cast-t14 c = record
+    { fits = omega (arith, front-range (c .before .before .args .log2-side) (c .before .before .pre .1)) }
 
 cast-t13 : tie.Need-cast-t13
 cast-t13 c =
     let s = c .before .before in
     let x = error-range (s .args .log2-side) (s .args .qp) (s .pre .0) (s .pre .1) (s .pre .2) in
-    record { fits = omega (arith, product c, x .2, scale-range (s .args .qp), front-range (s .args .log2-side) (s .pre .1)) }
+    record {
+      fits = omega (
+        arith,
+        product c,
+        x .2,
+        scale-range (s .args .qp),
+        front-range (s .args .log2-side) (s .pre .1),
+      );
+    }
 
 cast-t19 : tie.Need-cast-t19
 unfolding shiftOf
@@ -112,7 +124,14 @@ cast-t19 c =
     let s = c .before .before in
     let h = half-range (s .args .log2-side) (s .args .qp) (s .pre .0) (s .pre .1) (s .pre .2) in
     let q = scale-range (s .args .qp) in
-    record { fits = omega (arith, c .before .scale .ensures, least-range (1 * 2 ^ (shiftOf (s .args .log2-side) (s .args .qp) - 1) % 18446744073709551616) (c .before .scale .result) (omega (arith, c .before .scale .ensures)) (omega arith)) }
+    record {
+      fits = omega (
+        arith,
+        c .before .scale .ensures,
+        least-range (1 * 2 ^ (shiftOf (s .args .log2-side) (s .args .qp) - 1) % 18446744073709551616)
+            (c .before .scale .result) (omega (arith, c .before .scale .ensures)) (omega arith),
+      );
+    }
 
 returns : tie.Need-returns
 unfolding shiftOf

@@ -39,7 +39,8 @@ unfolding threshold shiftOf
 returns c =
     let s = c .before in
     let u = shift-range (s .args .log2-side) (s .args .qp) (s .pre .0) (s .pre .1) (s .pre .2) in
-    let t = threshold-range (shiftOf (s .args .log2-side) (s .args .qp)) (omega arith) (omega arith) _ 201 (bit _ (omega arith)) (omega arith) in
+    let t = threshold-range (shiftOf (s .args .log2-side) (s .args .qp)) (omega arith) (omega arith) _ 201
+    (bit _ (omega arith)) (omega arith) in
     rw (c .if1 .taken) (t .0, t .1, omega (arith, t .3))
 
 returns-2 : tie.Need-returns-2
@@ -47,7 +48,8 @@ unfolding threshold shiftOf
 returns-2 c =
     let s = c .before in
     let u = shift-range (s .args .log2-side) (s .args .qp) (s .pre .0) (s .pre .1) (s .pre .2) in
-    let t = threshold-range (shiftOf (s .args .log2-side) (s .args .qp)) (omega arith) (omega arith) _ 153 (bit _ (omega arith)) (omega arith) in
+    let t = threshold-range (shiftOf (s .args .log2-side) (s .args .qp)) (omega arith) (omega arith) _ 153
+    (bit _ (omega arith)) (omega arith) in
     rw (c .if1 .left) (t .0, t .1, omega (arith, t .3))
 
 pub skip-threshold-spec : {M : Type 1} → statement M

@@ -1,4 +1,5 @@
--- `search::passes::last_place` meets its contract: while something is left there is a place for it, and where nothing is left nothing is kept.
+-- `search::passes::last_place` meets its contract: while something is left there is a place for it, and where nothing
+-- is left nothing is kept.
 -- Assumes nothing.
 use mathlib.Core.Path.{_≡_, sym, ap, _∙_}
 use mathlib.Core.Logic.{⊎-elim}
@@ -33,7 +34,8 @@ inside-n : (c : Turn) → c .before .loop .n < start c .args .side * start c .ar
 inside-n c =
     let s = start c in
     let l = c .before .loop in
-    kept-inside (s .args .side) (s .args .kept .now) (s .args .scan .now) (s .pre .0) (l .n) (omega (arith, l .inv .1, c .loop-test .taken))
+    kept-inside (s .args .side) (s .args .kept .now) (s .args .scan .now) (s .pre .0) (l .n)
+    (omega (arith, l .inv .1, c .loop-test .taken))
 
 long : (c : Turn) → length (start c .args .scan .now) ≡ start c .args .side * start c .args .side
 long c = let sc = start c .pre .0 in ap length (sc .is) ∙ sc .full
@@ -41,13 +43,16 @@ long c = let sc = start c .pre .0 in ap length (sc .is) ∙ sc .full
 -- what is left before a turn, and what is kept for its place
 left-there : (c : Turn)
     → (let s = start c in
-    c .before .loop .left ≡ ones (keptAt (s .args .side) (s .args .kept .now) (c .before .loop .n)) + keptFrom (s .args .side) (s .args .kept .now) (c .before .loop .n + 1))
+    c .before .loop .left ≡ ones (keptAt (s .args .side) (s .args .kept .now) (c .before .loop .n)) + keptFrom
+    (s .args .side) (s .args .kept .now) (c .before .loop .n + 1))
 left-there c =
     let s = start c in
-    c .before .loop .inv .1 ∙ kept-next (s .args .side) (s .args .kept .now) (s .args .scan .now) (s .pre .0) (c .before .loop .n) (inside-n c)
+    c .before .loop .inv .1 ∙ kept-next (s .args .side) (s .args .kept .now) (s .args .scan .now) (s .pre .0)
+    (c .before .loop .n) (inside-n c)
 
 kept-is : (c : tie.After-magnitude-at Inv-loop μ-loop)
-    → (let s = start (turn c) in c .magnitude-at .result ≡ keptAt (s .args .side) (s .args .kept .now) (turn c .before .loop .n))
+    → (let s = start (turn c) in c .magnitude-at .result ≡ keptAt (s .args .side) (s .args .kept .now)
+    (turn c .before .loop .n))
 kept-is c =
     let s = start (turn c) in
     c .magnitude-at .ensures
@@ -57,8 +62,11 @@ kept-is c =
 
 loop-holds : tie.Need-loop-holds Inv-loop μ-loop
 loop-holds c =
-    let s = c .before .before in
-    (omega arith, s .pre .2 ∙ kept-in-all (s .args .side) (s .args .kept .now) (s .args .scan .now) (s .pre .0) (s .pre .1))
+    let s = c .before .before in (
+      omega arith,
+      s .pre .2 ∙ kept-in-all (s .args .side) (s .args .kept .now) (s .args .scan .now) (s .pre .0)
+          (s .pre .1),
+    )
 
 scan-place-requires : tie.Need-scan-place-requires Inv-loop μ-loop
 scan-place-requires c κs = omega (arith, inside-n c, start c .pre .0 .few)
@@ -102,7 +110,8 @@ returns c =
     let l = c .before .loop in
     record {
       within = l .inv .0;
-      tail = none-kept (s .args .side) (s .args .kept .now) (s .args .scan .now) (s .pre .0) (l .n) (omega (arith, l .inv .1, c .loop-test .left));
+      tail = none-kept (s .args .side) (s .args .kept .now) (s .args .scan .now) (s .pre .0) (l .n)
+          (omega (arith, l .inv .1, c .loop-test .left));
     }
 
 pub last-place-spec : {M : Type 1} → statement M

@@ -1,4 +1,5 @@
--- `search::passes::look_back` meets its contract: each turn passes its place or weighs it, and writes what is chosen there.
+-- `search::passes::look_back` meets its contract: each turn passes its place or weighs it, and writes what is chosen
+-- there.
 -- Assumes nothing.
 use mathlib.Core.Path.{_≡_, sym, ap, subst, _∙_}
 use Prim.Native.Nat.{ℕ, suc, _*_, _-_, _≤_, _<_}
@@ -40,7 +41,8 @@ kept-there c = let a = start c .args in keptAt (a .side) (a .kept .now) (place c
 looking : (c : Turn)
     → (let a = start c .args in
     let l = c .before .loop in
-    Looking (a .p) (a .g) (a .side) (a .kept .now) (a .end) (l .after-zero) (l .after-level) (l .goes-on) (l .t) (suc (place c)))
+    Looking (a .p) (a .g) (a .side) (a .kept .now) (a .end) (l .after-zero) (l .after-level) (l .goes-on) (l .t)
+    (suc (place c)))
 looking c =
     let e : suc (place c) ≡ c .before .loop .n = omega (arith, c .loop-test .taken) in
     rw e (c .before .loop .inv)
@@ -55,7 +57,8 @@ loop-holds : tie.Need-loop-holds Inv-loop μ-loop
 loop-holds c =
     let s = c .before .before .before .before .before in
     let h = s .pre in
-    begun (s .args .p) (s .args .g) (s .args .side) (s .args .kept .now) (s .args .scan .now) (h .0) (h .1) (s .args .end) (h .2) _ _ _ (h .3) (h .4) (h .5)
+    begun (s .args .p) (s .args .g) (s .args .side) (s .args .kept .now) (s .args .scan .now) (h .0) (h .1)
+    (s .args .end) (h .2) _ _ _ (h .3) (h .4) (h .5)
 
 sub-n : tie.Need-sub-n Inv-loop μ-loop
 sub-n c = search needs
@@ -74,7 +77,8 @@ block-place-requires c κs =
     )
 
 magnitude-at-requires : tie.Need-magnitude-at-requires Inv-loop μ-loop
-magnitude-at-requires c κs = omega (arith, c .block-place .ensures .1, start (c .before .before) .pre .1 .weighable .room)
+magnitude-at-requires c κs =
+    omega (arith, c .block-place .ensures .1, start (c .before .before) .pre .1 .weighable .room)
 
 kept-is : (c : tie.After-magnitude-at Inv-loop μ-loop) → c .magnitude-at .result ≡ kept-there (turn c)
 kept-is c =
@@ -109,7 +113,8 @@ loop-again c =
     let t = turn (c .before .before) in
     let h = start t .pre in
     rw (c .pass .ensures)
-    (passes _ _ _ _ _ (h .0) (h .1) _ (h .2) _ _ _ _ _ (looking t) (sym (kept-is (c .before .before)) ∙ c .before .if1 .taken))
+    (passes _ _ _ _ _ (h .0) (h .1) _ (h .2) _ _ _ _ _ (looking t) (sym (kept-is (c .before .before))
+    ∙ c .before .if1 .taken))
 
 -- a place that is weighed: something is kept there
 abbrev Weighing : Type 0
@@ -149,7 +154,8 @@ mul-after-zero-2 : tie.Need-mul-after-zero-2 Inv-loop μ-loop
 mul-after-zero-2 c = record { fits = omega (arith, few (turn (there (c .before .before .before)))) }
 
 slice-write-after-zero-2 : tie.Need-slice-write-after-zero-2 Inv-loop μ-loop
-slice-write-after-zero-2 c = let t = turn (there (c .before .before .before)) in omega (arith, inside-turn t, looking t .zero-room)
+slice-write-after-zero-2 c = let t =
+    turn (there (c .before .before .before)) in omega (arith, inside-turn t, looking t .zero-room)
 
 cast-after-level : tie.Need-cast-after-level Inv-loop μ-loop
 cast-after-level c = record { fits = omega (arith, c .before .before .before .weigh .ensures .small .1) }
@@ -158,7 +164,8 @@ mul-after-level-2 : tie.Need-mul-after-level-2 Inv-loop μ-loop
 mul-after-level-2 c = record { fits = omega (arith, few (turn (there (c .before .before .before .before)))) }
 
 slice-write-after-level-2 : tie.Need-slice-write-after-level-2 Inv-loop μ-loop
-slice-write-after-level-2 c = let t = turn (there (c .before .before .before .before)) in omega (arith, inside-turn t, looking t .level-room)
+slice-write-after-level-2 c = let t =
+    turn (there (c .before .before .before .before)) in omega (arith, inside-turn t, looking t .level-room)
 
 cast-goes-on : tie.Need-cast-goes-on Inv-loop μ-loop
 cast-goes-on c = record { fits = omega (arith, c .before .before .before .before .weigh .ensures .small .2) }
@@ -167,7 +174,8 @@ mul-goes-on : tie.Need-mul-goes-on Inv-loop μ-loop
 mul-goes-on c = record { fits = omega (arith, few (turn (there (c .before .before .before .before .before)))) }
 
 slice-write-goes-on : tie.Need-slice-write-goes-on Inv-loop μ-loop
-slice-write-goes-on c = let t = turn (there (c .before .before .before .before .before)) in omega (arith, inside-turn t, looking t .on-room)
+slice-write-goes-on c = let t =
+    turn (there (c .before .before .before .before .before)) in omega (arith, inside-turn t, looking t .on-room)
 
 loop-less-2 : tie.Need-loop-less-2 Inv-loop μ-loop
 loop-less-2 c = let t = turn (there (c .before .before .before .before .before)) in omega (arith, t .loop-test .taken)
@@ -178,7 +186,8 @@ loop-again-2 c =
     let t = turn (there (w .before)) in
     let a = start t .args in
     let h = start t .pre in
-    let q = subst (λ (k : ℕ). WeighedBy (a .p) (a .g) (t .before .loop .t) (k * a .g .q) (w .weigh .result)) (kept-is (there (w .before))) (w .weigh .ensures) in
+    let q = subst (λ (k : ℕ). WeighedBy (a .p) (a .g) (t .before .loop .t) (k * a .g .q) (w .weigh .result))
+    (kept-is (there (w .before))) (w .weigh .ensures) in
     weighs _ _ _ _ _ (h .0) (h .1) _ (h .2) _ _ _ _ _ (looking t) (some-there (w .before)) (w .weigh .result) q
 
 same-length : tie.Need-same-length Inv-loop μ-loop

@@ -42,14 +42,17 @@ level-is : (c : tie.Joined1 Inv-loop μ-loop)
 level-is c =
     let s = start (turn c) in
     let l = turn c .before .loop in
-    ⊎-elim (λ w. w .2 ∙ sym (chosen-zero (s .args .after-zero .now) (s .args .after-level .now) (l .prev) (l .n) (w .0 .taken)))
-    (λ w. w .1 ∙ sym (chosen-level (s .args .after-zero .now) (s .args .after-level .now) (l .prev) (l .n) (w .0 .left)))
+    ⊎-elim (λ w. w .2
+    ∙ sym (chosen-zero (s .args .after-zero .now) (s .args .after-level .now) (l .prev) (l .n) (w .0 .taken)))
+    (λ w. w .1 ∙ sym (chosen-level (s .args .after-zero .now) (s .args .after-level .now) (l .prev) (l .n)
+    (w .0 .left)))
     (c .if1 .came)
 
 loop-holds : tie.Need-loop-holds Inv-loop μ-loop
 loop-holds c =
     let s = c .before .before .before .before .before in
-    begun (s .args .side) (s .args .end) _ _ _ (s .args .scan .now) (s .pre .0) (s .args .levels .now) (s .pre .2) (s .pre .3)
+    begun (s .args .side) (s .args .end) _ _ _ (s .args .scan .now) (s .pre .0) (s .args .levels .now) (s .pre .2)
+    (s .pre .3)
 
 mul-a : tie.Need-mul-a Inv-loop μ-loop
 mul-a c = search needs
@@ -78,7 +81,8 @@ block-place-requires c κs =
     )
 
 put-magnitude-requires : tie.Need-put-magnitude-requires Inv-loop μ-loop
-put-magnitude-requires c κs = omega (arith, c .block-place .ensures .1, turn (c .before .before .before) .before .loop .inv .room)
+put-magnitude-requires c κs =
+    omega (arith, c .block-place .ensures .1, turn (c .before .before .before) .before .loop .inv .room)
 
 mul-stop-with : tie.Need-mul-stop-with Inv-loop μ-loop
 mul-stop-with c = search needs
@@ -93,7 +97,8 @@ add-n : tie.Need-add-n Inv-loop μ-loop
 add-n c = let t = turn (levelled (c .before)) in omega (arith, inside-n t, start t .pre .0 .few)
 
 loop-less : tie.Need-loop-less Inv-loop μ-loop
-loop-less c = let t = turn (levelled (c .before)) in omega (arith, inside-n t, t .loop-test .taken, t .before .loop .inv .within)
+loop-less c = let t =
+    turn (levelled (c .before)) in omega (arith, inside-n t, t .loop-test .taken, t .before .loop .inv .within)
 
 loop-again : tie.Need-loop-again Inv-loop μ-loop
 loop-again c =
@@ -107,7 +112,8 @@ loop-again c =
     ∙ ap (λ (k : ℕ). set (l .levels) k (j .if1 .a))
     (at .block-place .ensures .0 ∙ ap (scanAt (s .args .side) (s .args .side)) (at .before .scan-place .ensures .0)) in
     rw (put, c .stop-with .ensures)
-    (reads (s .args .side) (s .args .end) _ _ _ (s .args .scan .now) (s .pre .0) (l .levels) (l .stop) (l .prev) (l .n) (l .inv) (t .loop-test .taken) (j .if1 .a) (level-is j))
+    (reads (s .args .side) (s .args .end) _ _ _ (s .args .scan .now) (s .pre .0) (l .levels) (l .stop) (l .prev) (l .n)
+    (l .inv) (t .loop-test .taken) (j .if1 .a) (level-is j))
 
 same-length : tie.Need-same-length Inv-loop μ-loop
 same-length c = search needs
@@ -116,7 +122,8 @@ returns : tie.Need-returns Inv-loop μ-loop
 returns c =
     let s = c .before .before .before .before .before .before .before in
     let l = c .before .loop in
-    read (s .args .side) (s .args .end) _ _ _ (s .args .scan .now) (s .pre .0) (l .levels) (l .stop) (l .prev) (l .n) (l .inv) (c .loop-test .left)
+    read (s .args .side) (s .args .end) _ _ _ (s .args .scan .now) (s .pre .0) (l .levels) (l .stop) (l .prev) (l .n)
+    (l .inv) (c .loop-test .left)
 
 pub read-off-spec : {M : Type 1} → statement M
 read-off-spec =

@@ -26,7 +26,8 @@ returns-2 : tie.Need-returns-2
 returns-2 c = ended _ _ _ _ (c .before .if1 .left) (c .if2 .taken)
 
 returns-3 : tie.Need-returns-3
-returns-3 c = let s = c .before .before in went-on (s .args .level) (s .args .on) (s .args .n) (s .args .stop) (c .if2 .left)
+returns-3 c = let s =
+    c .before .before in went-on (s .args .level) (s .args .on) (s .args .n) (s .args .stop) (c .if2 .left)
 
 pub stop-with-spec : {M : Type 1} → statement M
 stop-with-spec = tie.close (tie.spec returns add-result returns-2 returns-3)

@@ -1,5 +1,5 @@
--- `subblock::component::code_component` meets its contract: a component that is run is transformed, which is accepted, and quantised by
--- the definition's call; one that is not run is left alone.
+-- `subblock::component::code_component` meets its contract: a component that is run is transformed, which is accepted,
+-- and quantised by the definition's call; one that is not run is left alone.
 -- Assumes nothing.
 use mathlib.Core.Path.{_≡_, refl, sym, ap, _∙_}
 use mathlib.Core.Bool.{true, false}
@@ -48,7 +48,8 @@ returns c =
     let a = then .before .before .args in
     let run : bit (a .component) (a .q .run) ≡ true = sym (then .before .is-run .ensures) ∙ then .if1 .taken in
     let e : trans.paperOf (t .result) ≡ accepted =
-    t .ensures .0 ∙ trans-passes (a .component) (a .q) (a .part .now) (then .before .before .pre) run (f .side-of .result) (f .side-of .ensures) in
+    t .ensures .0 ∙ trans-passes (a .component) (a .q) (a .part .now) (then .before .before .pre) run
+    (f .side-of .result) (f .side-of .ensures) in
     let g = sym (ap trans.paperOf (c .before .t .given .1)) ∙ e in
     let z : _≡_ {A = ℕ} 0 1 = cc in
     absurd (let no : ⊥ = omega arith in no)

@@ -1,12 +1,13 @@
--- `subblock::component::code_parts` meets its contract: each stretch is lent on in turn, the first refusal is handed on, and what three
--- coded components leave stands in the room in a row.
+-- `subblock::component::code_parts` meets its contract: each stretch is lent on in turn, the first refusal is handed
+-- on, and what three coded components leave stands in the room in a row.
 -- Assumes nothing.
 use mathlib.Core.Path.{refl, ap, _∙_}
 use native.Mathlib.Omega.{arith}
 use borrow.Author.Needs.{needs}
 use Rattle.refusals.specs.declared.Component.the-variants.{Y, U, «V»}
 use Rattle.subblock.specs.Parts.{partAnswer}
-use Rattle.subblock.proofs.Turns.{first-is, first-ready, second-is, second-ready, third-is, third-ready, all-left, y-refused, u-refused, v-refused, all-coded}
+use Rattle.subblock.proofs.Turns.{first-is, first-ready, second-is, second-ready, third-is, third-ready}
+use Rattle.subblock.proofs.Turns.{all-left, y-refused, u-refused, v-refused, all-coded}
 use Rattle.subblock.proofs.component.code_parts.Statement.{statement}
 use Rattle.subblock.proofs.component.code_parts.Tie as tie
 
@@ -48,7 +49,8 @@ returns c =
     let a = s .args in
     let g = c .before .enum-told .given in
     y-refused (a .q) (a .n) (a .room .now) _ (c .refusal .result) (y .result) (g .0 .0) (g .0 .1 .0)
-    (y .ensures .0 ∙ ap (partAnswer Y (a .q)) (first-is (a .q) (a .n) (a .room .now) (s .pre))) (g .1) (c .refusal .ensures)
+    (y .ensures .0 ∙ ap (partAnswer Y (a .q)) (first-is (a .q) (a .n) (a .room .now) (s .pre))) (g .1)
+    (c .refusal .ensures)
 
 mul-code-component : tie.Need-mul-code-component
 mul-code-component c = omega (arith, c .before .before .before .before .before .before .pre .sizes .small)
@@ -91,13 +93,19 @@ returns-2 c =
     let s = r .before .before .before in
     let a = s .args in
     let g = c .before .enum-told2 .given in
-    u-refused (a .q) (a .n) (a .room .now) _ (c .refusal2 .result) (y .result) (k .before .y .given .0 .0) (u .result) (g .0 .0) (g .0 .1 .0)
+    u-refused (a .q) (a .n) (a .room .now) _ (c .refusal2 .result) (y .result) (k .before .y .given .0 .0) (u .result)
+    (g .0 .0) (g .0 .1 .0)
     (y .ensures .0 ∙ ap (partAnswer Y (a .q)) (first-is (a .q) (a .n) (a .room .now) (s .pre))) (k .before .y .given .1)
-    (u .ensures .0 ∙ ap (partAnswer U (a .q)) (second-is (a .q) (a .n) (a .room .now) (s .pre) _ (y .ensures .1))) (g .1) (c .refusal2 .ensures)
+    (u .ensures .0 ∙ ap (partAnswer U (a .q)) (second-is (a .q) (a .n) (a .room .now) (s .pre) _ (y .ensures .1)))
+    (g .1) (c .refusal2 .ensures)
 
 mul-code-component-2 : tie.Need-mul-code-component-2
 mul-code-component-2 c =
-    omega (arith, c .before .before .before .before .before .before .before .before .before .before .before .before .pre .sizes .small)
+    omega (
+      arith,
+      c .before .before .before .before .before .before .before .before .before .before .before .before .pre
+          .sizes .small,
+    )
 
 sub-code-component-3 : tie.Need-sub-code-component-3
 sub-code-component-3 c = search needs
@@ -142,11 +150,15 @@ returns-3 c =
     let s = r .before .before .before in
     let a = s .args in
     let g = c .before .enum-told3 .given in
-    v-refused (a .q) (a .n) (a .room .now) _ (c .refusal3 .result) (y .result) (k .before .y .given .0 .0) (j .before .w .given .0 .0) (u .result)
+    v-refused (a .q) (a .n) (a .room .now) _ (c .refusal3 .result) (y .result) (k .before .y .given .0 .0)
+    (j .before .w .given .0 .0) (u .result)
     (v .result) (g .0 .0) (g .0 .1 .0)
     (y .ensures .0 ∙ ap (partAnswer Y (a .q)) (first-is (a .q) (a .n) (a .room .now) (s .pre))) (k .before .y .given .1)
-    (u .ensures .0 ∙ ap (partAnswer U (a .q)) (second-is (a .q) (a .n) (a .room .now) (s .pre) _ (y .ensures .1))) (j .before .w .given .1)
-    (v .ensures .0 ∙ ap (partAnswer «V» (a .q)) (third-is (a .q) (a .n) (a .room .now) (s .pre) _ (y .ensures .1) _ (u .ensures .1)))
+    (u .ensures .0 ∙ ap (partAnswer U (a .q)) (second-is (a .q) (a .n) (a .room .now) (s .pre) _ (y .ensures .1)))
+    (j .before .w .given .1)
+    (v .ensures .0
+    ∙ ap (partAnswer «V» (a .q)) (third-is (a .q) (a .n) (a .room .now) (s .pre) _ (y .ensures .1) _
+    (u .ensures .1)))
     (g .1) (c .refusal3 .ensures)
 
 same-length-4 : tie.Need-same-length-4
@@ -164,11 +176,15 @@ returns-4 c =
     let y = r .before .code-component in
     let s = r .before .before .before in
     let a = s .args in
-    all-coded (a .q) (a .n) (a .room .now) _ _ (y .result) (k .before .y .given .0 .0) (j .before .w .given .0 .0) (c .before .x .given .0 .0) (u .result)
+    all-coded (a .q) (a .n) (a .room .now) _ _ (y .result) (k .before .y .given .0 .0) (j .before .w .given .0 .0)
+    (c .before .x .given .0 .0) (u .result)
     (v .result)
     (y .ensures .0 ∙ ap (partAnswer Y (a .q)) (first-is (a .q) (a .n) (a .room .now) (s .pre))) (k .before .y .given .1)
-    (u .ensures .0 ∙ ap (partAnswer U (a .q)) (second-is (a .q) (a .n) (a .room .now) (s .pre) _ (y .ensures .1))) (j .before .w .given .1)
-    (v .ensures .0 ∙ ap (partAnswer «V» (a .q)) (third-is (a .q) (a .n) (a .room .now) (s .pre) _ (y .ensures .1) _ (u .ensures .1)))
+    (u .ensures .0 ∙ ap (partAnswer U (a .q)) (second-is (a .q) (a .n) (a .room .now) (s .pre) _ (y .ensures .1)))
+    (j .before .w .given .1)
+    (v .ensures .0
+    ∙ ap (partAnswer «V» (a .q)) (third-is (a .q) (a .n) (a .room .now) (s .pre) _ (y .ensures .1) _
+    (u .ensures .1)))
     (c .before .x .given .1) refl
     (all-left (a .q) (a .n) (a .room .now) (s .pre) _ (y .ensures .1) _ (u .ensures .1) _ (v .ensures .1))
 

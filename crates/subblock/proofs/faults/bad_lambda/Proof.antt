@@ -24,12 +24,14 @@ returns c =
     let b = c .before .before .before in
     let a = b .before .args in
     c .lambda-refused .ensures ∙ ap (λ (s : Settings). lambdaRefused (s .lambda)) (b .settings-of .ensures)
-    ∙ asked (bit (a .component) (a .q .run)) (lambdaRefused (setOf (a .component) (a .q) .lambda)) (sym (c .before .before .is-run .ensures) ∙ c .before .if1 .taken)
+    ∙ asked (bit (a .component) (a .q .run)) (lambdaRefused (setOf (a .component) (a .q) .lambda))
+    (sym (c .before .before .is-run .ensures) ∙ c .before .if1 .taken)
 
 returns-2 : tie.Need-returns-2
 returns-2 c =
     let a = c .before .before .before .args in
-    not-asked (bit (a .component) (a .q .run)) (lambdaRefused (setOf (a .component) (a .q) .lambda)) (sym (c .before .is-run .ensures) ∙ c .if1 .left)
+    not-asked (bit (a .component) (a .q .run)) (lambdaRefused (setOf (a .component) (a .q) .lambda))
+    (sym (c .before .is-run .ensures) ∙ c .if1 .left)
 
 pub bad-lambda-spec : {M : Type 1} → statement M
 bad-lambda-spec = tie.close (tie.spec settings-of-requires is-run-requires lambda-refused-requires returns returns-2)

@@ -21,12 +21,14 @@ returns c =
     let b = c .before .before .before in
     let a = b .before .args in
     ap (λ (s : Settings). ltb 63 (s .qp)) (b .settings-of .ensures)
-    ∙ asked (bit (a .component) (a .q .run)) (ltb 63 (setOf (a .component) (a .q) .qp)) (sym (c .before .before .is-run .ensures) ∙ c .before .if1 .taken)
+    ∙ asked (bit (a .component) (a .q .run)) (ltb 63 (setOf (a .component) (a .q) .qp))
+    (sym (c .before .before .is-run .ensures) ∙ c .before .if1 .taken)
 
 returns-2 : tie.Need-returns-2
 returns-2 c =
     let a = c .before .before .before .args in
-    not-asked (bit (a .component) (a .q .run)) (ltb 63 (setOf (a .component) (a .q) .qp)) (sym (c .before .is-run .ensures) ∙ c .if1 .left)
+    not-asked (bit (a .component) (a .q .run)) (ltb 63 (setOf (a .component) (a .q) .qp))
+    (sym (c .before .is-run .ensures) ∙ c .if1 .left)
 
 pub bad-qp-spec : {M : Type 1} → statement M
 bad-qp-spec = tie.close (tie.spec settings-of-requires is-run-requires returns returns-2)

@@ -19,12 +19,14 @@ returns : tie.Need-returns
 returns c =
     let a = c .before .before .before .args in
     c .has-wild .ensures
-    ∙ asked (bit (a .component) (a .q .run)) (some wild (a .part .now)) (sym (c .before .before .is-run .ensures) ∙ c .before .if1 .taken)
+    ∙ asked (bit (a .component) (a .q .run)) (some wild (a .part .now)) (sym (c .before .before .is-run .ensures)
+    ∙ c .before .if1 .taken)
 
 returns-2 : tie.Need-returns-2
 returns-2 c =
     let a = c .before .before .args in
-    not-asked (bit (a .component) (a .q .run)) (some wild (a .part .now)) (sym (c .before .is-run .ensures) ∙ c .if1 .left)
+    not-asked (bit (a .component) (a .q .run)) (some wild (a .part .now)) (sym (c .before .is-run .ensures)
+    ∙ c .if1 .left)
 
 pub bad-residuals-spec : {M : Type 1} → statement M
 bad-residuals-spec = tie.close (tie.spec is-run-requires has-wild-requires returns returns-2)

@@ -35,7 +35,8 @@ returns-4 : tie.Need-returns-4
 returns-4 c =
     let r = c .match .rest in
     subst (λ (n : ℕ). Sizes n 1024)
-    (sym (last (c .before .args .side) (c .before .pre .0) (c .before .pre .1) (r .0 .0 .1) (r .0 .1) (r .1))) thirty-two
+    (sym (last (c .before .args .side) (c .before .pre .0) (c .before .pre .1) (r .0 .0 .1) (r .0 .1) (r .1)))
+    thirty-two
 
 pub luma-places-spec : {M : Type 1} → statement M
 luma-places-spec = tie.close (tie.spec returns returns-2 returns-3 returns-4)

@@ -1,5 +1,5 @@
--- `tables::matrix::fill_matrix` meets its contract. The listed numbers are the five matrices in a row, which antt computes; the loop
--- copies the part of one side, entry by entry.
+-- `tables::matrix::fill_matrix` meets its contract. The listed numbers are the five matrices in a row, which antt
+-- computes; the loop copies the part of one side, entry by entry.
 -- Assumes nothing.
 use mathlib.Core.Path.{_≡_, refl, sym, _∙_}
 use Prim.Native.Nat.{ℕ, _≤_, _<_, _-_, _/_, _%_, _^_}
@@ -67,7 +67,9 @@ loop-again c =
       simp length-set (l .inv .1),
       l .inv .2,
       filled-more (pos 0) (l .held) (λ j. getD (rowsOf (a .args .log2)) j (pos 0)) (l .i) _ (omega arith)
-          (toZ-ofZ {w = w8} (record { sfits = c .held .given }) ∙ held-at (pos 0) rowsOf rows-length _ (c .before .before .before .start .result) (a .args .log2) (l .i) (l .inv .2)
+          (toZ-ofZ {w = w8} (record { sfits = c .held .given })
+          ∙ held-at (pos 0) rowsOf rows-length _ (c .before .before .before .start .result) (a .args .log2) (l .i)
+          (l .inv .2)
           (c .before .before .before .start .ensures) (a .pre .0) (a .pre .1) h)
           (l .inv .3),
     )

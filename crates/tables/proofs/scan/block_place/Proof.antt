@@ -1,5 +1,5 @@
--- `tables::scan::block_place` meets its contract: what is held is the scan, whose entries lie inside the block, and that is
--- no larger than the largest.
+-- `tables::scan::block_place` meets its contract: what is held is the scan, whose entries lie inside the block, and
+-- that is no larger than the largest.
 -- Assumes nothing.
 use mathlib.Core.Path.{_≡_, ap, subst, sym}
 use mathlib.Core.List.{List}
@@ -27,7 +27,8 @@ returns c =
     let a = c .before .args in
     let e : getD (a .held .now) (a .p .0) 0 ≡ scanAt (a .w) (a .h) (a .p .0) =
     ap (λ (l : List ℕ). getD l (a .p .0) 0) (c .before .pre .0) in
-    let n : a .p .0 < length (scan (a .w) (a .h)) = subst (λ (l : List ℕ). a .p .0 < length l) (c .before .pre .0) (c .before .pre .1) in
+    let n : a .p .0 < length (scan (a .w) (a .h)) = subst (λ (l : List ℕ). a .p .0 < length l) (c .before .pre .0)
+    (c .before .pre .1) in
     let h = c .before .pre in
     let inside =
     subst (λ (v : ℕ). v < a .w * a .h) (sym e) (scan-inside (a .w) (a .h) (h .2) (h .3) (a .p .0) n) in

@@ -16,7 +16,8 @@ use Rattle.transform.proofs.block.settle.Statement.{statement}
 use Rattle.transform.proofs.block.settle.Tie as tie
 
 abbrev Inv-loop : tie.InvT-loop
-Inv-loop sums shift block₀ half n i₀ block i = (i ≤ length sums) × (length block ≡ length block₀) × Filled (pos 0) block (λ j. rounded (at sums j) shift) i
+Inv-loop sums shift block₀ half n i₀ block i =
+    (i ≤ length sums) × (length block ≡ length block₀) × Filled (pos 0) block (λ j. rounded (at sums j) shift) i
 
 abbrev μ-loop : tie.MeasureT-loop
 μ-loop sums shift block₀ half n i₀ block i = length sums - i
@@ -76,7 +77,9 @@ loop-again c =
     let l = c .before .before .loop in (
       omega arith,
       simp length-set (l .inv .1),
-      filled-more (pos 0) (l .block) (λ j. rounded (at (a .args .sums .now) j) (a .args .shift)) (l .i) _ (omega arith) (result-is z (a .args .shift) (a .pre .0 .1) (a .pre .0 .2) (a .pre .1 (c .before .before .loop .i) (omega arith))) (l .inv .2),
+      filled-more (pos 0) (l .block) (λ j. rounded (at (a .args .sums .now) j) (a .args .shift)) (l .i) _ (omega arith)
+          (result-is z (a .args .shift) (a .pre .0 .1) (a .pre .0 .2)
+          (a .pre .1 (c .before .before .loop .i) (omega arith))) (l .inv .2),
     )
 
 same-length : tie.Need-same-length Inv-loop μ-loop

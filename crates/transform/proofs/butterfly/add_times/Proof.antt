@@ -1,4 +1,5 @@
--- `transform::butterfly::add_times` meets its contract: the entries before k have been added to, those from k on are as they were.
+-- `transform::butterfly::add_times` meets its contract: the entries before k have been added to, those from k on are as
+-- they were.
 -- Assumes nothing.
 use mathlib.Core.Path.{_≡_, refl, sym, _∙_, ap}
 use Prim.Native.Nat.{ℕ, _+_, _*_, _-_, _^_, _<_, _≤_}
@@ -102,7 +103,8 @@ returns c =
     let a = c .before .before in
     λ k h.
     c .before .loop .inv .2 k (omega arith)
-    ∙ ap (λ (z : ℤ). at (a .args .b .now) k +ℤ at (a .args .t .now) k *ℤ z) (toZ-ofZ {w = w32} {z = a .args .v} (a .fits .v))
+    ∙ ap (λ (z : ℤ). at (a .args .b .now) k +ℤ at (a .args .t .now) k *ℤ z)
+    (toZ-ofZ {w = w32} {z = a .args .v} (a .fits .v))
 
 pub add-times-spec : {M : Type 1} → statement M
 add-times-spec =

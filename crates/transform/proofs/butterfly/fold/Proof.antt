@@ -33,11 +33,13 @@ module _ (x : List ℤ) (small : (i : ℕ) → i < length x → natAbs (at x i) 
 
   total : (i j : ℕ) → i < length x → j < length x → SFits w32 (at x i +ℤ at x j)
   total i j h g =
-      fits-within (at x i +ℤ at x j) (2 ^ 30) (omega (arith, magnitude-+ (at x i) (at x j), small i h, small j g)) (lit< tt)
+      fits-within (at x i +ℤ at x j) (2 ^ 30) (omega (arith, magnitude-+ (at x i) (at x j), small i h, small j g))
+      (lit< tt)
 
   gap : (i j : ℕ) → i < length x → j < length x → SFits w32 (at x i -ℤ at x j)
   gap i j h g =
-      fits-within (at x i -ℤ at x j) (2 ^ 30) (omega (arith, magnitude-- (at x i) (at x j), small i h, small j g)) (lit< tt)
+      fits-within (at x i -ℤ at x j) (2 ^ 30) (omega (arith, magnitude-- (at x i) (at x j), small i h, small j g))
+      (lit< tt)
 
 loop-holds : tie.Need-loop-holds Inv-loop μ-loop
 loop-holds c = (omega arith, refl, refl, below-none _, below-none _)
@@ -66,7 +68,8 @@ add-e c =
     let x = a .args .x .now in
     let k = c .before .before .before .loop .k in
     let j = length x - 1 - k in
-    operation-fits w32 _+ℤ_ (at x k) (at x j) (value x (a .pre .1) k (omega arith)) (value x (a .pre .1) j (omega arith))
+    operation-fits w32 _+ℤ_ (at x k) (at x j) (value x (a .pre .1) k (omega arith))
+    (value x (a .pre .1) j (omega arith))
     (total x (a .pre .1) k j (omega arith) (omega arith))
 
 mul-o : tie.Need-mul-o Inv-loop μ-loop
@@ -81,7 +84,8 @@ sub-o c =
     let x = a .args .x .now in
     let k = c .before .before .before .loop .k in
     let j = length x - 1 - k in
-    operation-fits w32 _-ℤ_ (at x k) (at x j) (value x (a .pre .1) k (omega arith)) (value x (a .pre .1) j (omega arith))
+    operation-fits w32 _-ℤ_ (at x k) (at x j) (value x (a .pre .1) k (omega arith))
+    (value x (a .pre .1) j (omega arith))
     (gap x (a .pre .1) k j (omega arith) (omega arith))
 
 mul-t14 : tie.Need-mul-t14 Inv-loop μ-loop
@@ -109,7 +113,8 @@ loop-again c =
       simp length-set (l .inv .1),
       simp length-set (l .inv .2),
       filled-more (pos 0) (l .e) (sumOf x) k _ (omega arith)
-          (operation-is w32 _+ℤ_ (at x k) (at x j) p q (total x (a .pre .1) k j (omega arith) (omega arith))) (l .inv .3),
+          (operation-is w32 _+ℤ_ (at x k) (at x j) p q (total x (a .pre .1) k j (omega arith) (omega arith)))
+          (l .inv .3),
       filled-more (pos 0) (l .o) (differenceOf x) k _ (omega arith)
           (operation-is w32 _-ℤ_ (at x k) (at x j) p q (gap x (a .pre .1) k j (omega arith) (omega arith))) (l .inv .4),
     )

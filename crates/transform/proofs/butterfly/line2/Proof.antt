@@ -19,13 +19,15 @@ add-row : tie.Need-add-row
 add-row c =
     let a = c .before .before in
     let x = a .args .x .now in
-    pair-fits _+ℤ_ (at x 0) (at x 1) (first (a .args .x .now) (a .pre .0) (a .pre .2) 0 (omega arith)) (first (a .args .x .now) (a .pre .0) (a .pre .2) 1 (omega arith)) (magnitude-+ (at x 0) (at x 1))
+    pair-fits _+ℤ_ (at x 0) (at x 1) (first (a .args .x .now) (a .pre .0) (a .pre .2) 0 (omega arith))
+    (first (a .args .x .now) (a .pre .0) (a .pre .2) 1 (omega arith)) (magnitude-+ (at x 0) (at x 1))
 
 mul-row : tie.Need-mul-row
 mul-row c =
     let a = c .before .before in
     let x = a .args .x .now in
-    sixty-four-fits _+ℤ_ (at x 0) (at x 1) (first (a .args .x .now) (a .pre .0) (a .pre .2) 0 (omega arith)) (first (a .args .x .now) (a .pre .0) (a .pre .2) 1 (omega arith)) (magnitude-+ (at x 0) (at x 1))
+    sixty-four-fits _+ℤ_ (at x 0) (at x 1) (first (a .args .x .now) (a .pre .0) (a .pre .2) 0 (omega arith))
+    (first (a .args .x .now) (a .pre .0) (a .pre .2) 1 (omega arith)) (magnitude-+ (at x 0) (at x 1))
 
 slice-set-from-row : tie.Need-slice-set-from-row
 slice-set-from-row c = search needs
@@ -34,13 +36,15 @@ sub-row : tie.Need-sub-row
 sub-row c =
     let a = c .before .before in
     let x = a .args .x .now in
-    pair-fits _-ℤ_ (at x 0) (at x 1) (first (a .args .x .now) (a .pre .0) (a .pre .2) 0 (omega arith)) (first (a .args .x .now) (a .pre .0) (a .pre .2) 1 (omega arith)) (magnitude-- (at x 0) (at x 1))
+    pair-fits _-ℤ_ (at x 0) (at x 1) (first (a .args .x .now) (a .pre .0) (a .pre .2) 0 (omega arith))
+    (first (a .args .x .now) (a .pre .0) (a .pre .2) 1 (omega arith)) (magnitude-- (at x 0) (at x 1))
 
 mul-row-2 : tie.Need-mul-row-2
 mul-row-2 c =
     let a = c .before .before in
     let x = a .args .x .now in
-    sixty-four-fits _-ℤ_ (at x 0) (at x 1) (first (a .args .x .now) (a .pre .0) (a .pre .2) 0 (omega arith)) (first (a .args .x .now) (a .pre .0) (a .pre .2) 1 (omega arith)) (magnitude-- (at x 0) (at x 1))
+    sixty-four-fits _-ℤ_ (at x 0) (at x 1) (first (a .args .x .now) (a .pre .0) (a .pre .2) 0 (omega arith))
+    (first (a .args .x .now) (a .pre .0) (a .pre .2) 1 (omega arith)) (magnitude-- (at x 0) (at x 1))
 
 slice-set-from-row-2 : tie.Need-slice-set-from-row-2
 slice-set-from-row-2 c = search needs

@@ -4,7 +4,8 @@ use mathlib.Core.Path.{refl, _∙_}
 use native.Mathlib.Omega.{arith}
 use borrow.Author.Needs.{needs}
 use Rattle.transform.proofs.OddHalf.{noughts-at}
-use Rattle.transform.proofs.Level.{table-long, odd-coefficient, odd-half-fits, sums-room, values-small, row-joins}
+use Rattle.transform.proofs.Level.{table-long, odd-coefficient, odd-half-fits, sums-room, values-small}
+use Rattle.transform.proofs.Level.{row-joins}
 use Rattle.transform.proofs.butterfly.line4.Statement.{statement}
 use Rattle.transform.proofs.butterfly.line4.Tie as tie
 
@@ -32,10 +33,16 @@ odd-half-requires c κs =
     let f = c .before .before .before .before .before .fold in
     let e = f .last .1 .0 in
     let o = f .last .1 .1 .0 in (
-      (omega arith, omega arith, table-long 1 (omega arith) x (a .pre .0 .0) (a .args .t2 .now) o (a .pre .1) (omega arith) (f .ensures .1)),
+      (
+        omega arith,
+        omega arith,
+        table-long 1 (omega arith) x (a .pre .0 .0) (a .args .t2 .now) o (a .pre .1)
+            (omega arith) (f .ensures .1),
+      ),
       (
         noughts-at 2,
-        λ k h. odd-half-fits 1 (omega arith) x (a .pre .0 .0) (a .args .t2 .now) o (a .pre .1) (omega arith) (f .ensures .1) (a .pre .0 .2) k (omega arith),
+        λ k h. odd-half-fits 1 (omega arith) x (a .pre .0 .0) (a .args .t2 .now) o (a .pre .1) (omega arith)
+            (f .ensures .1) (a .pre .0 .2) k (omega arith),
       ),
     )
 
@@ -50,27 +57,37 @@ slice-aggregate-line2 c = search needs
 
 line2-requires : tie.Need-line2-requires
 line2-requires c κs =
-    let a = c .before .before .before .before .before .before .before .before .before .before .before .before .before .before .before .before in
+    let a = c .before .before .before .before .before .before .before .before .before .before .before .before .before
+    .before .before .before in
     let x = a .args .x .now in
-    let f = c .before .before .before .before .before .before .before .before .before .before .before .before .before .fold in
+    let f = c .before .before .before .before .before .before .before .before .before .before .before .before .before
+    .fold in
     let e = f .last .1 .0 in
-    let o = f .last .1 .1 .0 in
-    (omega arith, omega arith, sums-room 1 (omega arith) x (a .pre .0 .0) e (omega arith) (f .ensures .0) (a .pre .0 .2))
+    let o = f .last .1 .1 .0 in (
+      omega arith,
+      omega arith,
+      sums-room 1 (omega arith) x (a .pre .0 .0) e (omega arith) (f .ensures .0)
+          (a .pre .0 .2),
+    )
 
 same-length : tie.Need-same-length
 same-length c = search needs
 
 returns : tie.Need-returns
 returns c =
-    let a = c .before .before .before .before .before .before .before .before .before .before .before .before .before .before .before .before .before .before in
+    let a = c .before .before .before .before .before .before .before .before .before .before .before .before .before
+    .before .before .before .before .before in
     let x = a .args .x .now in
-    let f = c .before .before .before .before .before .before .before .before .before .before .before .before .before .before .before .fold in
+    let f = c .before .before .before .before .before .before .before .before .before .before .before .before .before
+    .before .before .fold in
     let e = f .last .1 .0 in
     let o = f .last .1 .1 .0 in
     let p = c .before .before .before .before .before .put in
     let b = c .before .before .before .before .before .before .before .before .before .odd-half in
-    row-joins 1 (omega arith) x (a .pre .0 .0) e (b .last .1 .1 .0) (a .args .row .now) (p .last .1 .0) _ (f .ensures .0)
-    (λ k h. b .ensures k h ∙ odd-coefficient 1 (omega arith) x (a .pre .0 .0) (a .args .t2 .now) o (a .pre .1) (omega arith) (f .ensures .1) k h)
+    row-joins 1 (omega arith) x (a .pre .0 .0) e (b .last .1 .1 .0) (a .args .row .now) (p .last .1 .0) _
+    (f .ensures .0)
+    (λ k h. b .ensures k h ∙ odd-coefficient 1 (omega arith) x (a .pre .0 .0) (a .args .t2 .now) o (a .pre .1)
+    (omega arith) (f .ensures .1) k h)
     (omega arith) (p .ensures .0) (p .ensures .1) (c .before .line2 .ensures)
 
 pub line4-spec : {M : Type 1} → statement M

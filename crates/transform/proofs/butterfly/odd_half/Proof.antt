@@ -9,7 +9,8 @@ use mir.Syntax.{w32}
 use mir.Facts.{toZ-ofZ}
 use Rattle.integers.specs.Sum.{at}
 use Rattle.transform.specs.Lines.{gained}
-use Rattle.transform.proofs.OddHalf.{gained-none, column-ends, column-inside, column-length, turn-fits, turn-gains}
+use Rattle.transform.proofs.OddHalf.{gained-none, column-ends, column-inside, column-length, turn-fits}
+use Rattle.transform.proofs.OddHalf.{turn-gains}
 use Rattle.transform.proofs.butterfly.odd_half.Statement.{statement}
 use Rattle.transform.proofs.butterfly.odd_half.Tie as tie
 
@@ -29,16 +30,34 @@ shared-slice-copy-out-v : tie.Need-shared-slice-copy-out-v Inv-loop μ-loop
 shared-slice-copy-out-v c = omega arith
 
 mul-r : tie.Need-mul-r Inv-loop μ-loop
-mul-r c = omega (arith, column-ends (c .before .before .loop .n) (length (c .before .before .before .args .o .now)) (omega arith) (omega arith))
+mul-r c = omega (
+  arith,
+  column-ends (c .before .before .loop .n) (length (c .before .before .before .args .o .now))
+      (omega arith) (omega arith),
+)
 
 add-e : tie.Need-add-e Inv-loop μ-loop
-add-e c = omega (arith, column-ends (c .before .before .loop .n) (length (c .before .before .before .args .o .now)) (omega arith) (omega arith))
+add-e c = omega (
+  arith,
+  column-ends (c .before .before .loop .n) (length (c .before .before .before .args .o .now))
+      (omega arith) (omega arith),
+)
 
 mul-add-times : tie.Need-mul-add-times Inv-loop μ-loop
-mul-add-times c = omega (arith, column-ends (c .before .before .loop .n) (length (c .before .before .before .args .o .now)) (omega arith) (omega arith))
+mul-add-times c =
+    omega (
+      arith,
+      column-ends (c .before .before .loop .n) (length (c .before .before .before .args .o .now))
+          (omega arith) (omega arith),
+    )
 
 sub-add-times : tie.Need-sub-add-times Inv-loop μ-loop
-sub-add-times c = omega (arith, column-ends (c .before .before .loop .n) (length (c .before .before .before .args .o .now)) (omega arith) (omega arith))
+sub-add-times c =
+    omega (
+      arith,
+      column-ends (c .before .before .loop .n) (length (c .before .before .before .args .o .now))
+          (omega arith) (omega arith),
+    )
 
 part-add-times-start : tie.Need-part-add-times-start Inv-loop μ-loop
 part-add-times-start c = omega arith
@@ -46,7 +65,11 @@ part-add-times-start c = omega arith
 part-add-times-end : tie.Need-part-add-times-end Inv-loop μ-loop
 part-add-times-end c =
     let a = c .before .before .before in
-    omega (arith, column-inside (c .before .before .loop .n) (length (a .args .o .now)) (length (a .args .t .now)) (omega arith) (a .pre .0 .2))
+    omega (
+      arith,
+      column-inside (c .before .before .loop .n) (length (a .args .o .now)) (length (a .args .t .now))
+          (omega arith) (a .pre .0 .2),
+    )
 
 add-times-requires : tie.Need-add-times-requires Inv-loop μ-loop
 add-times-requires c κs =
@@ -86,7 +109,8 @@ returns c =
     let a = c .before .before in
     λ k h.
     c .before .loop .inv .2 k h
-    ∙ ap (λ (m : ℕ). gained (a .args .t .now) (a .args .o .now) m k) (let e : c .before .loop .n ≡ length (a .args .o .now) = omega arith in e)
+    ∙ ap (λ (m : ℕ). gained (a .args .t .now) (a .args .o .now) m k) (let e : c .before .loop .n
+    ≡ length (a .args .o .now) = omega arith in e)
 
 pub odd-half-spec : {M : Type 1} → statement M
 odd-half-spec =

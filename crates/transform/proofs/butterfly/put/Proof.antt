@@ -1,4 +1,5 @@
--- `transform::butterfly::put` meets its contract: the first k numbers are stored, and what lies behind them all is as it was.
+-- `transform::butterfly::put` meets its contract: the first k numbers are stored, and what lies behind them all is as
+-- it was.
 -- Assumes nothing.
 use mathlib.Core.Path.{_≡_, refl, _∙_}
 use Prim.Native.Nat.{ℕ, _+_, _-_, _<_, _≤_}

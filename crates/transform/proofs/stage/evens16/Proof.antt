@@ -1,4 +1,5 @@
--- `transform::stage::evens16` meets its contract: before the turn j the first j lines stand in the even rows, and the odd rows are kept.
+-- `transform::stage::evens16` meets its contract: before the turn j the first j lines stand in the even rows, and the
+-- odd rows are kept.
 -- Assumes nothing.
 use mathlib.Core.Path.{_≡_, refl, _∙_, subst}
 use Prim.Native.Nat.{ℕ, _+_, _*_, _-_, _≤_}
@@ -59,8 +60,11 @@ fold-requires c κs =
     let l = c .before .before .before .before .loop in
     let s = a .args .src .now in
     let x = take (l .j * 16 + 16 - l .j * 16) (drop (l .j * 16) s) in
-    let ends : l .j * 16 + 16 ≤ length s = omega arith in
-    ((omega (arith, line-length 16 s (l .j) ends), refl), values-small 3 (omega arith) x (line-length 16 s (l .j) ends) (line-room 16 s (l .j) ends 4 (a .pre .3)))
+    let ends : l .j * 16 + 16 ≤ length s = omega arith in (
+      (omega (arith, line-length 16 s (l .j) ends), refl),
+      values-small 3 (omega arith) x (line-length 16 s (l .j) ends)
+          (line-room 16 s (l .j) ends 4 (a .pre .3)),
+    )
 
 slice-aggregate-line8 : tie.Need-slice-aggregate-line8 Inv-loop μ-loop
 slice-aggregate-line8 c = search needs
@@ -70,14 +74,25 @@ slice-aggregate-line8-2 c = search needs
 
 line8-requires : tie.Need-line8-requires Inv-loop μ-loop
 line8-requires c κs =
-    let a = c .before .before .before .before .before .before .before .before .before .before .before .before .before .before in
+    let a = c .before .before .before .before .before .before .before .before .before .before .before .before .before
+    .before in
     let l = c .before .before .before .before .before .before .before .before .before .before .before .loop in
     let s = a .args .src .now in
     let x = take (l .j * 16 + 16 - l .j * 16) (drop (l .j * 16) s) in
     let ends : l .j * 16 + 16 ≤ length s = omega arith in
     let f = c .before .before .before .before .before .before .fold in (
-      (omega arith, omega arith, sums-room 3 (omega arith) x (line-length 16 s (l .j) ends) (f .last .1 .0) (omega arith) (f .ensures .0) (line-room 16 s (l .j) ends 4 (a .pre .3))),
-      (c .before .before .before .before .before .before .before .before .before .before .before .before .before .odd-4 .ensures, c .before .before .before .before .before .before .before .before .before .before .before .before .odd-2 .ensures),
+      (
+        omega arith,
+        omega arith,
+        sums-room 3 (omega arith) x (line-length 16 s (l .j) ends) (f .last .1 .0)
+            (omega arith) (f .ensures .0) (line-room 16 s (l .j) ends 4 (a .pre .3)),
+      ),
+      (
+        c .before .before .before .before .before .before .before .before .before .before .before .before .before .odd-4
+            .ensures,
+        c .before .before .before .before .before .before .before .before .before .before .before .before
+            .odd-2 .ensures,
+      ),
     )
 
 slice-aggregate-store-row : tie.Need-slice-aggregate-store-row Inv-loop μ-loop
@@ -97,8 +112,10 @@ loop-less c = omega arith
 
 loop-again : tie.Need-loop-again Inv-loop μ-loop
 loop-again c =
-    let a = c .before .before .before .before .before .before .before .before .before .before .before .before .before .before .before .before .before .before .before .before in
-    let l = c .before .before .before .before .before .before .before .before .before .before .before .before .before .before .before .before .before .loop in
+    let a = c .before .before .before .before .before .before .before .before .before .before .before .before .before
+    .before .before .before .before .before .before .before in
+    let l = c .before .before .before .before .before .before .before .before .before .before .before .before .before
+    .before .before .before .before .loop in
     let s = a .args .src .now in
     let x = take (l .j * 16 + 16 - l .j * 16) (drop (l .j * 16) s) in
     let ends : l .j * 16 + 16 ≤ length s = omega arith in
@@ -107,9 +124,12 @@ loop-again c =
     let p = c .before .store-row .ensures in (
       omega arith,
       omega arith,
-      columns-more (λ j k. stageAt 16 s j (2 * k)) 8 (2 * a .args .lines) (λ j. j) (l .dst) _ (l .j) (λ k. at (y .last .1 .1 .1 .0) (place 3 k))
+      columns-more (λ j k. stageAt 16 s j (2 * k)) 8 (2 * a .args .lines) (λ j. j) (l .dst) _ (l .j)
+          (λ k. at (y .last .1 .1 .1 .0) (place 3 k))
           (left-column (a .args .lines) (l .j) (omega arith))
-          (λ k h. y .ensures .holds k h ∙ even-coefficient 3 (omega arith) x (line-length 16 s (l .j) ends) (f .last .1 .0) (f .ensures .0) k h ∙ line-is 16 s (l .j) (2 * k))
+          (λ k h. y .ensures .holds k h
+          ∙ even-coefficient 3 (omega arith) x (line-length 16 s (l .j) ends) (f .last .1 .0) (f .ensures .0) k h
+          ∙ line-is 16 s (l .j) (2 * k))
           p
           (l .inv .2),
       λ j k h g. p .kept k (a .args .lines + j) (omega arith) (λ e. omega arith) ∙ l .inv .3 j k h g,
@@ -122,7 +142,8 @@ returns : tie.Need-returns Inv-loop μ-loop
 returns c =
     let a = c .before .before .before .before .args in
     let e : c .before .loop .j ≡ a .lines = omega arith in (
-      subst (λ (m : ℕ). Columns (λ j k. stageAt 16 (a .src .now) j (2 * k)) 8 (2 * a .lines) (λ j. j) (c .before .loop .dst) m) e (c .before .loop .inv .2),
+      subst (λ (m : ℕ). Columns (λ j k. stageAt 16 (a .src .now) j (2 * k)) 8 (2 * a .lines) (λ j. j)
+          (c .before .loop .dst) m) e (c .before .loop .inv .2),
       c .before .loop .inv .3,
     )
 

@@ -44,8 +44,11 @@ slice-aggregate-line2 c = search needs
 line2-requires : tie.Need-line2-requires Inv-loop μ-loop
 line2-requires c κs =
     let a = c .before .before .before .before in
-    let l = c .before .before .before .loop in
-    (line-length 2 (a .args .src .now) (l .j) (omega arith), omega arith, line-room 2 (a .args .src .now) (l .j) (omega arith) 1 (a .pre .3))
+    let l = c .before .before .before .loop in (
+      line-length 2 (a .args .src .now) (l .j) (omega arith),
+      omega arith,
+      line-room 2 (a .args .src .now) (l .j) (omega arith) 1 (a .pre .3),
+    )
 
 slice-aggregate-store-row : tie.Need-slice-aggregate-store-row Inv-loop μ-loop
 slice-aggregate-store-row c = search needs
@@ -66,7 +69,8 @@ loop-again c =
     let x = c .before .before .before .before .before .line2 in (
       omega arith,
       omega arith,
-      columns-more (stageAt 2 (a .args .src .now)) 2 (a .args .lines) (λ j. j) (l .dst) _ (l .j) (λ k. at (x .last .1 .0) (place 1 k))
+      columns-more (stageAt 2 (a .args .src .now)) 2 (a .args .lines) (λ j. j) (l .dst) _ (l .j)
+          (λ k. at (x .last .1 .0) (place 1 k))
           (own-column (a .args .lines) (l .j) (omega arith))
           (λ k h. x .ensures .holds k h ∙ line-is 2 (a .args .src .now) (l .j) k)
           (c .before .store-row .ensures)

@@ -12,7 +12,8 @@ use Rattle.transform.proofs.stage.lines32.Statement.{statement}
 use Rattle.transform.proofs.stage.lines32.Tie as tie
 
 abbrev Inv-loop : tie.InvT-loop
-Inv-loop lines src dst₀ t16 t8 t4 t2 j₀ dst j = (j ≤ lines) × (length dst ≡ length dst₀) × Staged (λ z. z) 5 lines src dst j
+Inv-loop lines src dst₀ t16 t8 t4 t2 j₀ dst j =
+    (j ≤ lines) × (length dst ≡ length dst₀) × Staged (λ z. z) 5 lines src dst j
 
 abbrev μ-loop : tie.MeasureT-loop
 μ-loop lines src dst₀ t16 t8 t4 t2 j₀ dst j = lines - j
@@ -56,8 +57,20 @@ slice-aggregate-line32 c = search needs
 line32-requires : tie.Need-line32-requires Inv-loop μ-loop
 line32-requires c κs =
     let a = c .before .before .before .before .before .before .before .before .before .before .before .before in
-    let l = c .before .before .before .before .before .before .before .loop in
-    ((line-length 32 (a .args .src .now) (l .j) (omega arith), omega arith, line-room 32 (a .args .src .now) (l .j) (omega arith) 5 (a .pre .3)), (c .before .before .before .before .before .before .before .before .before .before .before .odd-16 .ensures, c .before .before .before .before .before .before .before .before .before .before .odd-8 .ensures, c .before .before .before .before .before .before .before .before .before .odd-4 .ensures, c .before .before .before .before .before .before .before .before .odd-2 .ensures))
+    let l = c .before .before .before .before .before .before .before .loop in (
+      (
+        line-length 32 (a .args .src .now) (l .j) (omega arith),
+        omega arith,
+        line-room 32 (a .args .src .now) (l .j)
+            (omega arith) 5 (a .pre .3),
+      ),
+      (
+        c .before .before .before .before .before .before .before .before .before .before .before .odd-16 .ensures,
+        c .before .before .before .before .before .before .before .before .before .before .odd-8 .ensures,
+        c .before .before .before .before .before .before .before .before .before .odd-4 .ensures,
+        c .before .before .before .before .before .before .before .before .odd-2 .ensures,
+      ),
+    )
 
 slice-aggregate-store-row : tie.Need-slice-aggregate-store-row Inv-loop μ-loop
 slice-aggregate-store-row c = search needs
@@ -73,12 +86,15 @@ loop-less c = omega arith
 
 loop-again : tie.Need-loop-again Inv-loop μ-loop
 loop-again c =
-    let a = c .before .before .before .before .before .before .before .before .before .before .before .before .before .before .before .before .before .before in
-    let l = c .before .before .before .before .before .before .before .before .before .before .before .before .before .loop in
+    let a = c .before .before .before .before .before .before .before .before .before .before .before .before .before
+    .before .before .before .before .before in
+    let l = c .before .before .before .before .before .before .before .before .before .before .before .before .before
+    .loop in
     let x = c .before .before .before .before .before .line32 in (
       omega arith,
       omega arith,
-      columns-more (stageAt 32 (a .args .src .now)) 32 (a .args .lines) (λ j. j) (l .dst) _ (l .j) (λ k. at (x .last .1 .1 .1 .1 .1 .0) (place 5 k))
+      columns-more (stageAt 32 (a .args .src .now)) 32 (a .args .lines) (λ j. j) (l .dst) _ (l .j)
+          (λ k. at (x .last .1 .1 .1 .1 .1 .0) (place 5 k))
           (own-column (a .args .lines) (l .j) (omega arith))
           (λ k h. x .ensures .holds k h ∙ line-is 32 (a .args .src .now) (l .j) k)
           (c .before .store-row .ensures)

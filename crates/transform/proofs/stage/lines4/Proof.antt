@@ -47,8 +47,14 @@ slice-aggregate-line4 c = search needs
 line4-requires : tie.Need-line4-requires Inv-loop μ-loop
 line4-requires c κs =
     let a = c .before .before .before .before .before .before in
-    let l = c .before .before .before .before .loop in
-    ((line-length 4 (a .args .src .now) (l .j) (omega arith), omega arith, line-room 4 (a .args .src .now) (l .j) (omega arith) 2 (a .pre .3)), c .before .before .before .before .before .odd-2 .ensures)
+    let l = c .before .before .before .before .loop in (
+      (
+        line-length 4 (a .args .src .now) (l .j) (omega arith),
+        omega arith,
+        line-room 4 (a .args .src .now) (l .j) (omega arith) 2 (a .pre .3),
+      ),
+      c .before .before .before .before .before .odd-2 .ensures,
+    )
 
 slice-aggregate-store-row : tie.Need-slice-aggregate-store-row Inv-loop μ-loop
 slice-aggregate-store-row c = search needs
@@ -69,7 +75,8 @@ loop-again c =
     let x = c .before .before .before .before .before .line4 in (
       omega arith,
       omega arith,
-      columns-more (stageAt 4 (a .args .src .now)) 4 (a .args .lines) (λ j. j) (l .dst) _ (l .j) (λ k. at (x .last .1 .1 .0) (place 2 k))
+      columns-more (stageAt 4 (a .args .src .now)) 4 (a .args .lines) (λ j. j) (l .dst) _ (l .j)
+          (λ k. at (x .last .1 .1 .0) (place 2 k))
           (own-column (a .args .lines) (l .j) (omega arith))
           (λ k h. x .ensures .holds k h ∙ line-is 4 (a .args .src .now) (l .j) k)
           (c .before .store-row .ensures)

@@ -50,8 +50,17 @@ slice-aggregate-line8 c = search needs
 line8-requires : tie.Need-line8-requires Inv-loop μ-loop
 line8-requires c κs =
     let a = c .before .before .before .before .before .before .before .before in
-    let l = c .before .before .before .before .before .loop in
-    ((line-length 8 (a .args .src .now) (l .j) (omega arith), omega arith, line-room 8 (a .args .src .now) (l .j) (omega arith) 3 (a .pre .3)), (c .before .before .before .before .before .before .before .odd-4 .ensures, c .before .before .before .before .before .before .odd-2 .ensures))
+    let l = c .before .before .before .before .before .loop in (
+      (
+        line-length 8 (a .args .src .now) (l .j) (omega arith),
+        omega arith,
+        line-room 8 (a .args .src .now) (l .j) (omega arith) 3 (a .pre .3),
+      ),
+      (
+        c .before .before .before .before .before .before .before .odd-4 .ensures,
+        c .before .before .before .before .before .before .odd-2 .ensures,
+      ),
+    )
 
 slice-aggregate-store-row : tie.Need-slice-aggregate-store-row Inv-loop μ-loop
 slice-aggregate-store-row c = search needs
@@ -67,12 +76,14 @@ loop-less c = omega arith
 
 loop-again : tie.Need-loop-again Inv-loop μ-loop
 loop-again c =
-    let a = c .before .before .before .before .before .before .before .before .before .before .before .before .before .before in
+    let a = c .before .before .before .before .before .before .before .before .before .before .before .before .before
+    .before in
     let l = c .before .before .before .before .before .before .before .before .before .before .before .loop in
     let x = c .before .before .before .before .before .line8 in (
       omega arith,
       omega arith,
-      columns-more (stageAt 8 (a .args .src .now)) 8 (a .args .lines) (λ j. j) (l .dst) _ (l .j) (λ k. at (x .last .1 .1 .1 .0) (place 3 k))
+      columns-more (stageAt 8 (a .args .src .now)) 8 (a .args .lines) (λ j. j) (l .dst) _ (l .j)
+          (λ k. at (x .last .1 .1 .1 .0) (place 3 k))
           (own-column (a .args .lines) (l .j) (omega arith))
           (λ k h. x .ensures .holds k h ∙ line-is 8 (a .args .src .now) (l .j) k)
           (c .before .store-row .ensures)

@@ -57,8 +57,11 @@ fold-requires c κs =
     let l = c .before .before .before .before .loop in
     let s = a .args .src .now in
     let x = take (l .j * 16 + 16 - l .j * 16) (drop (l .j * 16) s) in
-    let ends : l .j * 16 + 16 ≤ length s = omega arith in
-    ((omega (arith, line-length 16 s (l .j) ends), refl), values-small 3 (omega arith) x (line-length 16 s (l .j) ends) (line-room 16 s (l .j) ends 4 (a .pre .3)))
+    let ends : l .j * 16 + 16 ≤ length s = omega arith in (
+      (omega (arith, line-length 16 s (l .j) ends), refl),
+      values-small 3 (omega arith) x (line-length 16 s (l .j) ends)
+          (line-room 16 s (l .j) ends 4 (a .pre .3)),
+    )
 
 slice-aggregate-odd-half : tie.Need-slice-aggregate-odd-half Inv-loop μ-loop
 slice-aggregate-odd-half c = search needs
@@ -77,11 +80,21 @@ odd-half-requires c κs =
     let x = take (l .j * 16 + 16 - l .j * 16) (drop (l .j * 16) s) in
     let ends : l .j * 16 + 16 ≤ length s = omega arith in
     let f = c .before .before .before .before .before .fold in
-    let t = c .before .before .before .before .before .before .before .before .before .before .before .odd-8 .ensures in (
-      (omega arith, omega arith, table-long 3 (omega arith) x (line-length 16 s (l .j) ends) (c .before .before .before .before .before .before .before .before .before .before .before .odd-8 .result) (f .last .1 .1 .0) t (omega arith) (f .ensures .1)),
+    let t = c .before .before .before .before .before .before .before .before .before .before .before .odd-8
+    .ensures in (
+      (
+        omega arith,
+        omega arith,
+        table-long 3 (omega arith) x (line-length 16 s (l .j) ends)
+            (c .before .before .before .before .before .before .before .before .before .before .before .odd-8 .result)
+            (f .last .1 .1 .0) t (omega arith) (f .ensures .1),
+      ),
       (
         noughts-at 8,
-        λ k h. odd-half-fits 3 (omega arith) x (line-length 16 s (l .j) ends) (c .before .before .before .before .before .before .before .before .before .before .before .odd-8 .result) (f .last .1 .1 .0) t (omega arith) (f .ensures .1) (line-room 16 s (l .j) ends 4 (a .pre .3)) k (omega arith),
+        λ k h. odd-half-fits 3 (omega arith) x (line-length 16 s (l .j) ends)
+            (c .before .before .before .before .before .before .before .before .before .before .before .odd-8 .result)
+            (f .last .1 .1 .0) t (omega arith) (f .ensures .1) (line-room 16 s (l .j) ends 4 (a .pre .3)) k
+            (omega arith),
       ),
     )
 
@@ -96,8 +109,10 @@ add-store c = omega arith
 
 store-requires : tie.Need-store-requires Inv-loop μ-loop
 store-requires c κs =
-    let a = c .before .before .before .before .before .before .before .before .before .before .before .before .before .before .before .before in
-    let l = c .before .before .before .before .before .before .before .before .before .before .before .before .before .before .loop in
+    let a = c .before .before .before .before .before .before .before .before .before .before .before .before .before
+    .before .before .before in
+    let l = c .before .before .before .before .before .before .before .before .before .before .before .before .before
+    .before .loop in
     let s = a .args .src .now in
     let x = take (l .j * 16 + 16 - l .j * 16) (drop (l .j * 16) s) in
     let ends : l .j * 16 + 16 ≤ length s = omega arith in
@@ -112,8 +127,10 @@ loop-less c = omega arith
 
 loop-again : tie.Need-loop-again Inv-loop μ-loop
 loop-again c =
-    let a = c .before .before .before .before .before .before .before .before .before .before .before .before .before .before .before .before .before .before in
-    let l = c .before .before .before .before .before .before .before .before .before .before .before .before .before .before .before .before .loop in
+    let a = c .before .before .before .before .before .before .before .before .before .before .before .before .before
+    .before .before .before .before .before in
+    let l = c .before .before .before .before .before .before .before .before .before .before .before .before .before
+    .before .before .before .loop in
     let s = a .args .src .now in
     let x = take (l .j * 16 + 16 - l .j * 16) (drop (l .j * 16) s) in
     let ends : l .j * 16 + 16 ≤ length s = omega arith in
@@ -122,10 +139,18 @@ loop-again c =
     let lb : length (b .last .1 .1 .0) ≡ 8 = omega arith in (
       omega arith,
       omega arith,
-      columns-more (λ j k. stageAt 16 s j (2 * k + 1)) 8 (2 * a .args .lines) (λ j. a .args .lines + j) (l .dst) _ (l .j) (at (b .last .1 .1 .0))
+      columns-more (λ j k. stageAt 16 s j (2 * k + 1)) 8 (2 * a .args .lines) (λ j. a .args .lines + j) (l .dst) _
+          (l .j) (at (b .last .1 .1 .0))
           (right-column (a .args .lines) (l .j) (omega arith))
-          (λ k h. b .ensures k (omega arith) ∙ odd-coefficient 3 (omega arith) x (line-length 16 s (l .j) ends) (c .before .before .before .before .before .before .before .before .before .before .before .before .before .before .before .before .before .odd-8 .result) (f .last .1 .1 .0) (c .before .before .before .before .before .before .before .before .before .before .before .before .before .before .before .before .before .odd-8 .ensures) (omega arith) (f .ensures .1) k h ∙ line-is 16 s (l .j) (2 * k + 1))
-          (subst (λ (m : ℕ). Placed (2 * a .args .lines) (a .args .lines + l .j) m (at (b .last .1 .1 .0)) (l .dst) (c .before .store .last .1 .0)) lb (c .before .store .ensures))
+          (λ k h. b .ensures k (omega arith)
+          ∙ odd-coefficient 3 (omega arith) x (line-length 16 s (l .j) ends)
+          (c .before .before .before .before .before .before .before .before .before .before .before .before .before
+          .before .before .before .before .odd-8 .result) (f .last .1 .1 .0)
+          (c .before .before .before .before .before .before .before .before .before .before .before .before .before
+          .before .before .before .before .odd-8 .ensures) (omega arith) (f .ensures .1) k h
+          ∙ line-is 16 s (l .j) (2 * k + 1))
+          (subst (λ (m : ℕ). Placed (2 * a .args .lines) (a .args .lines + l .j) m (at (b .last .1 .1 .0)) (l .dst)
+          (c .before .store .last .1 .0)) lb (c .before .store .ensures))
           (l .inv .2),
     )
 
@@ -136,7 +161,8 @@ returns : tie.Need-returns Inv-loop μ-loop
 returns c =
     let a = c .before .before .before .args in
     let e : c .before .loop .j ≡ a .lines = omega arith in
-    subst (λ (m : ℕ). Columns (λ j k. stageAt 16 (a .src .now) j (2 * k + 1)) 8 (2 * a .lines) (λ j. a .lines + j) (c .before .loop .dst) m)
+    subst (λ (m : ℕ). Columns (λ j k. stageAt 16 (a .src .now) j (2 * k + 1)) 8 (2 * a .lines) (λ j. a .lines + j)
+    (c .before .loop .dst) m)
     e (c .before .loop .inv .2)
 
 pub odds16-spec : {M : Type 1} → statement M

@@ -29,16 +29,41 @@ shared-slice-copy-out-v : tie.Need-shared-slice-copy-out-v Inv-loop μ-loop
 shared-slice-copy-out-v c = omega arith
 
 mul-v-2 : tie.Need-mul-v-2 Inv-loop μ-loop
-mul-v-2 c = omega (arith, place-below (c .before .before .before .args .width) (c .before .before .before .args .c) (c .before .before .loop .k) (length (c .before .before .before .args .b .now)) (length (c .before .before .before .args .dst .now)) (c .before .before .before .pre .0) (omega arith) (c .before .before .before .pre .1))
+mul-v-2 c = omega (
+  arith,
+  place-below (c .before .before .before .args .width) (c .before .before .before .args .c)
+      (c .before .before .loop .k) (length (c .before .before .before .args .b .now))
+      (length (c .before .before .before .args .dst .now)) (c .before .before .before .pre .0) (omega arith)
+      (c .before .before .before .pre .1),
+)
 
 add-v : tie.Need-add-v Inv-loop μ-loop
-add-v c = omega (arith, place-below (c .before .before .before .args .width) (c .before .before .before .args .c) (c .before .before .loop .k) (length (c .before .before .before .args .b .now)) (length (c .before .before .before .args .dst .now)) (c .before .before .before .pre .0) (omega arith) (c .before .before .before .pre .1))
+add-v c = omega (
+  arith,
+  place-below (c .before .before .before .args .width) (c .before .before .before .args .c)
+      (c .before .before .loop .k) (length (c .before .before .before .args .b .now))
+      (length (c .before .before .before .args .dst .now)) (c .before .before .before .pre .0) (omega arith)
+      (c .before .before .before .pre .1),
+)
 
 mul-v-3 : tie.Need-mul-v-3 Inv-loop μ-loop
-mul-v-3 c = omega (arith, place-below (c .before .before .before .args .width) (c .before .before .before .args .c) (c .before .before .loop .k) (length (c .before .before .before .args .b .now)) (length (c .before .before .before .args .dst .now)) (c .before .before .before .pre .0) (omega arith) (c .before .before .before .pre .1))
+mul-v-3 c = omega (
+  arith,
+  place-below (c .before .before .before .args .width) (c .before .before .before .args .c)
+      (c .before .before .loop .k) (length (c .before .before .before .args .b .now))
+      (length (c .before .before .before .args .dst .now)) (c .before .before .before .pre .0) (omega arith)
+      (c .before .before .before .pre .1),
+)
 
 slice-set-from-v : tie.Need-slice-set-from-v Inv-loop μ-loop
-slice-set-from-v c = omega (arith, place-below (c .before .before .before .args .width) (c .before .before .before .args .c) (c .before .before .loop .k) (length (c .before .before .before .args .b .now)) (length (c .before .before .before .args .dst .now)) (c .before .before .before .pre .0) (omega arith) (c .before .before .before .pre .1))
+slice-set-from-v c =
+    omega (
+      arith,
+      place-below (c .before .before .before .args .width) (c .before .before .before .args .c)
+          (c .before .before .loop .k) (length (c .before .before .before .args .b .now))
+          (length (c .before .before .before .args .dst .now)) (c .before .before .before .pre .0) (omega arith)
+          (c .before .before .before .pre .1),
+    )
 
 add-k : tie.Need-add-k Inv-loop μ-loop
 add-k c = omega arith
@@ -54,7 +79,11 @@ loop-again c =
       omega arith,
       simp length-set (l .inv .1),
       placed-more (g .width) (g .c) (l .k) (at (g .b .now)) (g .dst .now) (l .dst) _ (a .pre .0)
-          (omega (arith, place-below (g .width) (g .c) (l .k) (length (g .b .now)) (length (g .dst .now)) (a .pre .0) (omega arith) (a .pre .1)))
+          (omega (
+            arith,
+            place-below (g .width) (g .c) (l .k) (length (g .b .now)) (length (g .dst .now)) (a .pre .0)
+                (omega arith) (a .pre .1),
+          ))
           (toZ-ofZ {w = w32} (sfits-of (c .v .given)))
           (l .inv .2),
     )
@@ -66,7 +95,8 @@ returns : tie.Need-returns Inv-loop μ-loop
 returns c =
     let a = c .before .before .args in
     let e : c .before .loop .k ≡ length (a .b .now) = omega arith in
-    subst (λ (n : ℕ). Placed (a .width) (a .c) n (at (a .b .now)) (a .dst .now) (c .before .loop .dst)) e (c .before .loop .inv .2)
+    subst (λ (n : ℕ). Placed (a .width) (a .c) n (at (a .b .now)) (a .dst .now) (c .before .loop .dst)) e
+    (c .before .loop .inv .2)
 
 pub store-spec : {M : Type 1} → statement M
 store-spec =

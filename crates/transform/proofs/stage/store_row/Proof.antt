@@ -27,8 +27,13 @@ div-step c = omega (arith, lib.Pow.pow-pos (c .args .log2), c .pre .1)
 
 loop-holds : tie.Need-loop-holds Inv-loop μ-loop
 unfolding table
-loop-holds c =
-    (omega arith, refl, refl, placed-none (c .args .width) (c .args .c) (λ i. at (c .args .row .now) (place (c .args .log2) i)) (c .args .dst .now))
+loop-holds c = (
+  omega arith,
+  refl,
+  refl,
+  placed-none (c .args .width) (c .args .c)
+      (λ i. at (c .args .row .now) (place (c .args .log2) i)) (c .args .dst .now),
+)
 
 mul-p : tie.Need-mul-p Inv-loop μ-loop
 mul-p c =
@@ -46,43 +51,77 @@ cast-p : tie.Need-cast-p Inv-loop μ-loop
 cast-p c =
     let a = c .before .before in
     let l = c .before .loop in
-    omega (arith, place-at (a .args .log2) (a .pre .0) (length (a .args .row .now)) (a .pre .1) (l .k) (omega arith) _ (l .inv .2), place-inside (a .args .log2) (a .pre .0) (length (a .args .row .now)) (a .pre .1) (l .k) (omega arith))
+    omega (
+      arith,
+      place-at (a .args .log2) (a .pre .0) (length (a .args .row .now)) (a .pre .1) (l .k) (omega arith) _
+          (l .inv .2),
+      place-inside (a .args .log2) (a .pre .0) (length (a .args .row .now)) (a .pre .1) (l .k)
+          (omega arith),
+    )
 
 mul-v : tie.Need-mul-v Inv-loop μ-loop
 mul-v c =
     let a = c .before .before in
     let l = c .before .loop in
-    omega (arith, place-at (a .args .log2) (a .pre .0) (length (a .args .row .now)) (a .pre .1) (l .k) (omega arith) _ (l .inv .2), place-inside (a .args .log2) (a .pre .0) (length (a .args .row .now)) (a .pre .1) (l .k) (omega arith))
+    omega (
+      arith,
+      place-at (a .args .log2) (a .pre .0) (length (a .args .row .now)) (a .pre .1) (l .k) (omega arith) _
+          (l .inv .2),
+      place-inside (a .args .log2) (a .pre .0) (length (a .args .row .now)) (a .pre .1) (l .k)
+          (omega arith),
+    )
 
 shared-slice-copy-out-v : tie.Need-shared-slice-copy-out-v Inv-loop μ-loop
 shared-slice-copy-out-v c =
     let a = c .before .before in
     let l = c .before .loop in
-    omega (arith, place-at (a .args .log2) (a .pre .0) (length (a .args .row .now)) (a .pre .1) (l .k) (omega arith) _ (l .inv .2), place-inside (a .args .log2) (a .pre .0) (length (a .args .row .now)) (a .pre .1) (l .k) (omega arith))
+    omega (
+      arith,
+      place-at (a .args .log2) (a .pre .0) (length (a .args .row .now)) (a .pre .1) (l .k) (omega arith) _
+          (l .inv .2),
+      place-inside (a .args .log2) (a .pre .0) (length (a .args .row .now)) (a .pre .1) (l .k)
+          (omega arith),
+    )
 
 mul-v-2 : tie.Need-mul-v-2 Inv-loop μ-loop
 mul-v-2 c =
     let a = c .before .before .before in
     let l = c .before .before .loop in
-    omega (arith, place-below (a .args .width) (a .args .c) (l .k) (2 ^ a .args .log2) (length (a .args .dst .now)) (a .pre .2) (omega arith) (a .pre .3))
+    omega (
+      arith,
+      place-below (a .args .width) (a .args .c) (l .k) (2 ^ a .args .log2) (length (a .args .dst .now))
+          (a .pre .2) (omega arith) (a .pre .3),
+    )
 
 add-v : tie.Need-add-v Inv-loop μ-loop
 add-v c =
     let a = c .before .before .before in
     let l = c .before .before .loop in
-    omega (arith, place-below (a .args .width) (a .args .c) (l .k) (2 ^ a .args .log2) (length (a .args .dst .now)) (a .pre .2) (omega arith) (a .pre .3))
+    omega (
+      arith,
+      place-below (a .args .width) (a .args .c) (l .k) (2 ^ a .args .log2) (length (a .args .dst .now))
+          (a .pre .2) (omega arith) (a .pre .3),
+    )
 
 mul-v-3 : tie.Need-mul-v-3 Inv-loop μ-loop
 mul-v-3 c =
     let a = c .before .before .before in
     let l = c .before .before .loop in
-    omega (arith, place-below (a .args .width) (a .args .c) (l .k) (2 ^ a .args .log2) (length (a .args .dst .now)) (a .pre .2) (omega arith) (a .pre .3))
+    omega (
+      arith,
+      place-below (a .args .width) (a .args .c) (l .k) (2 ^ a .args .log2) (length (a .args .dst .now))
+          (a .pre .2) (omega arith) (a .pre .3),
+    )
 
 slice-set-from-v : tie.Need-slice-set-from-v Inv-loop μ-loop
 slice-set-from-v c =
     let a = c .before .before .before in
     let l = c .before .before .loop in
-    omega (arith, place-below (a .args .width) (a .args .c) (l .k) (2 ^ a .args .log2) (length (a .args .dst .now)) (a .pre .2) (omega arith) (a .pre .3))
+    omega (
+      arith,
+      place-below (a .args .width) (a .args .c) (l .k) (2 ^ a .args .log2) (length (a .args .dst .now))
+          (a .pre .2) (omega arith) (a .pre .3),
+    )
 
 add-k : tie.Need-add-k Inv-loop μ-loop
 add-k c = omega arith
@@ -98,9 +137,16 @@ loop-again c =
       omega arith,
       simp length-set (l .inv .1),
       l .inv .2,
-      placed-more (g .width) (g .c) (l .k) (λ i. at (g .row .now) (place (g .log2) i)) (g .dst .now) (l .dst) _ (a .pre .2)
-          (omega (arith, place-below (g .width) (g .c) (l .k) (2 ^ g .log2) (length (g .dst .now)) (a .pre .2) (omega arith) (a .pre .3)))
-          (toZ-ofZ {w = w32} (sfits-of (c .v .given)) ∙ ap (at (g .row .now)) (place-at (a .args .log2) (a .pre .0) (length (a .args .row .now)) (a .pre .1) (l .k) (omega arith) _ (l .inv .2)))
+      placed-more (g .width) (g .c) (l .k) (λ i. at (g .row .now) (place (g .log2) i)) (g .dst .now) (l .dst) _
+          (a .pre .2)
+          (omega (
+            arith,
+            place-below (g .width) (g .c) (l .k) (2 ^ g .log2) (length (g .dst .now)) (a .pre .2)
+                (omega arith) (a .pre .3),
+          ))
+          (toZ-ofZ {w = w32} (sfits-of (c .v .given))
+          ∙ ap (at (g .row .now)) (place-at (a .args .log2) (a .pre .0) (length (a .args .row .now)) (a .pre .1)
+          (l .k) (omega arith) _ (l .inv .2)))
           (l .inv .3),
     )
 
@@ -112,7 +158,8 @@ returns c =
     let a = c .before .before in
     let g = a .args in
     let e : c .before .loop .k ≡ 2 ^ g .log2 = omega arith in
-    subst (λ (n : ℕ). Placed (g .width) (g .c) n (λ i. at (g .row .now) (place (g .log2) i)) (g .dst .now) (c .before .loop .dst)) e
+    subst (λ (n : ℕ). Placed (g .width) (g .c) n (λ i. at (g .row .now) (place (g .log2) i)) (g .dst .now)
+    (c .before .loop .dst)) e
     (c .before .loop .inv .3)
 
 pub store-row-spec : {M : Type 1} → statement M

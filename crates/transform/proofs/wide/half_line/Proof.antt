@@ -21,8 +21,15 @@ returns c = c .before .large-line .ensures
 
 small-line-requires : tie.Need-small-line-requires
 small-line-requires c κs =
-    let a = c .before .before .before in
-    ((a .pre .0 .0, a .pre .0 .1, λ i h. none-above 1047552 (a .args .x .now) (sym (c .before .before .large .ensures) ∙ c .before .if1 .left) i (omega arith)), a .pre .1)
+    let a = c .before .before .before in (
+      (
+        a .pre .0 .0,
+        a .pre .0 .1,
+        λ i h. none-above 1047552 (a .args .x .now) (sym (c .before .before .large .ensures)
+            ∙ c .before .if1 .left) i (omega arith),
+      ),
+      a .pre .1,
+    )
 
 same-length-2 : tie.Need-same-length-2
 same-length-2 c = search needs

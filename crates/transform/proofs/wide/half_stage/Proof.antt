@@ -59,8 +59,17 @@ half-line-requires c κs =
     let l = c .before .before .before .before .before .before .before .loop in
     let s = a .args .src .now in
     let ends : l .j * 32 + 32 ≤ length s = omega arith in (
-      (line-length 32 s (l .j) ends, omega arith, line-within 32 s (l .j) ends 2095104 (λ i h. a .pre .2 i (omega arith))),
-      (c .before .before .before .before .before .before .before .before .before .before .before .odd-16 .ensures, c .before .before .before .before .before .before .before .before .before .before .odd-8 .ensures, c .before .before .before .before .before .before .before .before .before .odd-4 .ensures, c .before .before .before .before .before .before .before .before .odd-2 .ensures),
+      (
+        line-length 32 s (l .j) ends,
+        omega arith,
+        line-within 32 s (l .j) ends 2095104 (λ i h. a .pre .2 i (omega arith)),
+      ),
+      (
+        c .before .before .before .before .before .before .before .before .before .before .before .odd-16 .ensures,
+        c .before .before .before .before .before .before .before .before .before .before .odd-8 .ensures,
+        c .before .before .before .before .before .before .before .before .before .odd-4 .ensures,
+        c .before .before .before .before .before .before .before .before .odd-2 .ensures,
+      ),
     )
 
 slice-aggregate-store-row : tie.Need-slice-aggregate-store-row Inv-loop μ-loop
@@ -77,14 +86,17 @@ loop-less c = omega arith
 
 loop-again : tie.Need-loop-again Inv-loop μ-loop
 loop-again c =
-    let a = c .before .before .before .before .before .before .before .before .before .before .before .before .before .before .before .before .before .before in
-    let l = c .before .before .before .before .before .before .before .before .before .before .before .before .before .loop in
+    let a = c .before .before .before .before .before .before .before .before .before .before .before .before .before
+    .before .before .before .before .before in
+    let l = c .before .before .before .before .before .before .before .before .before .before .before .before .before
+    .loop in
     let s = a .args .src .now in
     let ends : l .j * 32 + 32 ≤ length s = omega arith in
     let x = c .before .before .before .before .before .half-line in (
       omega arith,
       omega arith,
-      columns-more (λ j k. half (stageAt 32 s j k)) 32 32 (λ j. j) (l .dst) _ (l .j) (λ k. at (x .last .1 .1 .1 .1 .1 .0) (place 5 k))
+      columns-more (λ j k. half (stageAt 32 s j k)) 32 32 (λ j. j) (l .dst) _ (l .j)
+          (λ k. at (x .last .1 .1 .1 .1 .1 .0) (place 5 k))
           (own-column 32 (l .j) (omega arith))
           (λ k h. x .ensures k h ∙ ap half (line-is 32 s (l .j) k))
           (c .before .store-row .ensures)

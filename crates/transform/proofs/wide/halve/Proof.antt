@@ -48,7 +48,8 @@ loop-again c =
     let x = c .before .before .before .args .x .now in (
       omega arith,
       simp length-set (l .inv .1),
-      filled-more (pos 0) (l .h) (λ j. half (at x j)) (l .i) _ (omega arith) (shift-is w32 (at x (l .i)) 2 (sfits-of (c .z .given))) (l .inv .2),
+      filled-more (pos 0) (l .h) (λ j. half (at x j)) (l .i) _ (omega arith)
+          (shift-is w32 (at x (l .i)) 2 (sfits-of (c .z .given))) (l .inv .2),
     )
 
 same-length : tie.Need-same-length Inv-loop μ-loop

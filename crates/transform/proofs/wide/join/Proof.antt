@@ -15,7 +15,8 @@ use Rattle.transform.proofs.wide.join.Statement.{statement}
 use Rattle.transform.proofs.wide.join.Tie as tie
 
 abbrev Inv-loop : tie.InvT-loop
-Inv-loop p q row₀ n i₀ row i = (i ≤ length p) × (length row ≡ length row₀) × Filled (pos 0) row (λ j. at p j +ℤ half (at q j)) i
+Inv-loop p q row₀ n i₀ row i =
+    (i ≤ length p) × (length row ≡ length row₀) × Filled (pos 0) row (λ j. at p j +ℤ half (at q j)) i
 
 abbrev μ-loop : tie.MeasureT-loop
 μ-loop p q row₀ n i₀ row i = length p - i
@@ -65,7 +66,8 @@ loop-again c =
       omega arith,
       simp length-set (l .inv .1),
       filled-more (pos 0) (l .row) (λ j. at (a .args .p .now) j +ℤ half (at (a .args .q .now) j)) i _ (omega arith)
-          (join-is p q (sfits-of (c .before .u .given)) (sfits-of (c .v .given)) (a .pre .1 i (omega arith))) (l .inv .2),
+          (join-is p q (sfits-of (c .before .u .given)) (sfits-of (c .v .given)) (a .pre .1 i (omega arith)))
+          (l .inv .2),
     )
 
 same-length : tie.Need-same-length Inv-loop μ-loop

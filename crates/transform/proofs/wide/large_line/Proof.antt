@@ -39,8 +39,15 @@ line32-requires c κs =
     let a = c .before .before .before .before .before .before .before .before .before in
     let x = a .args .x .now in
     let u = c .before .before .before .before .before .before .before .halve in
-    let v = c .before .before .before .leave in
-    ((omega arith, omega arith, halves-room x (u .last .1 .0) (v .last .1 .1 .0) (a .pre .0 .2) (λ i h. u .ensures i (omega arith)) (λ i h. v .ensures i (omega arith)) (omega arith)), a .pre .1)
+    let v = c .before .before .before .leave in (
+      (
+        omega arith,
+        omega arith,
+        halves-room x (u .last .1 .0) (v .last .1 .1 .0) (a .pre .0 .2)
+            (λ i h. u .ensures i (omega arith)) (λ i h. v .ensures i (omega arith)) (omega arith),
+      ),
+      a .pre .1,
+    )
 
 slice-aggregate-line32-3 : tie.Need-slice-aggregate-line32-3
 slice-aggregate-line32-3 c = search needs
@@ -53,8 +60,15 @@ line32-requires-2 c κs =
     let a = c .before .before .before .before .before .before .before .before .before .before .before .before .before in
     let x = a .args .x .now in
     let u = c .before .before .before .before .before .before .before .before .before .before .before .halve in
-    let v = c .before .before .before .before .before .before .before .leave in
-    ((omega arith, omega arith, rests-room x (u .last .1 .0) (v .last .1 .1 .0) (a .pre .0 .2) (λ i h. u .ensures i (omega arith)) (λ i h. v .ensures i (omega arith)) (omega arith)), a .pre .1)
+    let v = c .before .before .before .before .before .before .before .leave in (
+      (
+        omega arith,
+        omega arith,
+        rests-room x (u .last .1 .0) (v .last .1 .1 .0) (a .pre .0 .2)
+            (λ i h. u .ensures i (omega arith)) (λ i h. v .ensures i (omega arith)) (omega arith),
+      ),
+      a .pre .1,
+    )
 
 slice-aggregate-join : tie.Need-slice-aggregate-join
 slice-aggregate-join c = search needs
@@ -64,28 +78,39 @@ slice-aggregate-join-2 c = search needs
 
 join-requires : tie.Need-join-requires
 join-requires c κs =
-    let a = c .before .before .before .before .before .before .before .before .before .before .before .before .before .before .before .before .before .before in
+    let a = c .before .before .before .before .before .before .before .before .before .before .before .before .before
+    .before .before .before .before .before in
     let x = a .args .x .now in
-    let u = c .before .before .before .before .before .before .before .before .before .before .before .before .before .before .before .before .halve in
+    let u = c .before .before .before .before .before .before .before .before .before .before .before .before .before
+    .before .before .before .halve in
     let v = c .before .before .before .before .before .before .before .before .before .before .before .before .leave in
     let p = c .before .before .before .before .before .before .before .before .line32 in
-    let q = c .before .before .before .before .line322 in
-    ((omega arith, omega arith), λ i h. parts-fit x (u .last .1 .0) (v .last .1 .1 .0) (a .pre .0 .2) (λ i h. u .ensures i (omega arith)) (λ i h. v .ensures i (omega arith)) (p .last .1 .1 .1 .1 .1 .0) (q .last .1 .1 .1 .1 .1 .0) (p .ensures .holds) (q .ensures .holds) i (omega arith))
+    let q = c .before .before .before .before .line322 in (
+      (omega arith, omega arith),
+      λ i h. parts-fit x (u .last .1 .0) (v .last .1 .1 .0) (a .pre .0 .2)
+          (λ i h. u .ensures i (omega arith)) (λ i h. v .ensures i (omega arith)) (p .last .1 .1 .1 .1 .1 .0)
+          (q .last .1 .1 .1 .1 .1 .0) (p .ensures .holds) (q .ensures .holds) i (omega arith),
+    )
 
 same-length : tie.Need-same-length
 same-length c = search needs
 
 returns : tie.Need-returns
 returns c =
-    let a = c .before .before .before .before .before .before .before .before .before .before .before .before .before .before .before .before .before .before .before .before in
+    let a = c .before .before .before .before .before .before .before .before .before .before .before .before .before
+    .before .before .before .before .before .before .before in
     let x = a .args .x .now in
-    let u = c .before .before .before .before .before .before .before .before .before .before .before .before .before .before .before .before .before .before .halve in
-    let v = c .before .before .before .before .before .before .before .before .before .before .before .before .before .before .leave in
+    let u = c .before .before .before .before .before .before .before .before .before .before .before .before .before
+    .before .before .before .before .before .halve in
+    let v = c .before .before .before .before .before .before .before .before .before .before .before .before .before
+    .before .leave in
     let p = c .before .before .before .before .before .before .before .before .before .before .line32 in
     let q = c .before .before .before .before .before .before .line322 in
     λ k h.
     c .before .join .ensures (place 5 k) (omega (arith, place-inside 5 (omega arith) 32 refl k h))
-    ∙ parts-join x (u .last .1 .0) (v .last .1 .1 .0) (a .pre .0 .2) (λ i h. u .ensures i (omega arith)) (λ i h. v .ensures i (omega arith)) (p .last .1 .1 .1 .1 .1 .0) (q .last .1 .1 .1 .1 .1 .0) (p .ensures .holds) (q .ensures .holds) k h
+    ∙ parts-join x (u .last .1 .0) (v .last .1 .1 .0) (a .pre .0 .2) (λ i h. u .ensures i (omega arith))
+    (λ i h. v .ensures i (omega arith)) (p .last .1 .1 .1 .1 .1 .0) (q .last .1 .1 .1 .1 .1 .0) (p .ensures .holds)
+    (q .ensures .holds) k h
 
 pub large-line-spec : {M : Type 1} → statement M
 large-line-spec =

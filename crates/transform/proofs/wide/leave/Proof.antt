@@ -71,7 +71,8 @@ loop-again c =
     let l = c .before .before .before .loop in (
       omega arith,
       simp length-set (l .inv .1),
-      filled-more (pos 0) (l .v) (λ j. over (at x j)) i _ (omega arith) (over-held (at x i) (at (a .args .h .now) i) (p .0) (p .1)) (l .inv .2),
+      filled-more (pos 0) (l .v) (λ j. over (at x j)) i _ (omega arith)
+          (over-held (at x i) (at (a .args .h .now) i) (p .0) (p .1)) (l .inv .2),
     )
 
 same-length : tie.Need-same-length Inv-loop μ-loop

@@ -13,8 +13,14 @@ slice-aggregate-line32 c = search needs
 
 line32-requires : tie.Need-line32-requires
 line32-requires c κs =
-    let a = c .before in
-    ((a .pre .0 .0, omega arith, record { most = 1047552; each = λ i h. a .pre .0 .2 i (omega arith); room = omega arith }), a .pre .1)
+    let a = c .before in (
+      (
+        a .pre .0 .0,
+        omega arith,
+        record { most = 1047552; each = λ i h. a .pre .0 .2 i (omega arith); room = omega arith },
+      ),
+      a .pre .1,
+    )
 
 slice-aggregate-halve : tie.Need-slice-aggregate-halve
 slice-aggregate-halve c = search needs

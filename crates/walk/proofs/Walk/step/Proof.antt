@@ -1,4 +1,5 @@
--- `walk::Walk::step` meets its contract: 0 is kept, or the offer is taken, and then the cut behind it is the cheapest so far or is not.
+-- `walk::Walk::step` meets its contract: 0 is kept, or the offer is taken, and then the cut behind it is the cheapest
+-- so far or is not.
 -- Assumes nothing.
 use mathlib.Core.Path.{refl, _∙_}
 use Prim.Native.Nat.{_≤_}
@@ -39,7 +40,8 @@ returns c =
     let z = c .before .before .before .before .zero-at .ensures .0 in
     let h = c .before .before .before .head-at .ensures .0 in
     let b : c .before .before .before .before .before .squared-below .result ≤ a .self .base = rw d (s .pre .left) in
-    stays (a .p) (a .g) (a .n) (totalsOf (a .self)) (a .l) _ o _ _ _ _ d z h refl (s .pre .some) (c .before .if1 .taken) b
+    stays (a .p) (a .g) (a .n) (totalsOf (a .self)) (a .l) _ o _ _ _ _ d z h refl (s .pre .some) (c .before .if1 .taken)
+    b
 
 sub-b : tie.Need-sub-b
 sub-b c = search needs
@@ -69,7 +71,8 @@ returns-2 c =
     let z = c .before .before .before .before .before .before .before .before .zero-at .ensures .0 in
     let h = c .before .before .before .before .before .before .before .head-at .ensures .0 in
     moves (ruleBy (a .p) (a .g)) (a .n) (totalsOf (a .self)) _ _ _ (o .some) (c .before .if2 .taken)
-    ∙ goes (a .p) (a .g) (a .n) (totalsOf (a .self)) (a .l) _ o _ _ _ _ d z h refl (s .pre .some) (c .before .before .before .before .before .if1 .left)
+    ∙ goes (a .p) (a .g) (a .n) (totalsOf (a .self)) (a .l) _ o _ _ _ _ d z h refl (s .pre .some)
+    (c .before .before .before .before .before .if1 .left)
 
 returns-3 : tie.Need-returns-3
 unfolding ruleBy
@@ -81,7 +84,8 @@ returns-3 c =
     let z = c .before .before .before .before .before .before .before .before .zero-at .ensures .0 in
     let h = c .before .before .before .before .before .before .before .head-at .ensures .0 in
     goes-on (ruleBy (a .p) (a .g)) (a .n) (totalsOf (a .self)) _ _ _ (o .some) (c .before .if2 .left)
-    ∙ goes (a .p) (a .g) (a .n) (totalsOf (a .self)) (a .l) _ o _ _ _ _ d z h refl (s .pre .some) (c .before .before .before .before .before .if1 .left)
+    ∙ goes (a .p) (a .g) (a .n) (totalsOf (a .self)) (a .l) _ o _ _ _ _ d z h refl (s .pre .some)
+    (c .before .before .before .before .before .if1 .left)
 
 pub step-spec : {M : Type 1} → statement M
 step-spec =

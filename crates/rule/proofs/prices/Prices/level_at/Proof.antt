@@ -21,7 +21,14 @@ mul-result c =
 add-result : tie.Need-add-result
 add-result c =
     let s = c .before .before .before in
-    record { fits = omega (arith, s .pre .1 .two, s .pre .2, mul-le-mul-right (s .args .self .each) (sub-le (s .args .a) 2)) }
+    record {
+      fits = omega (
+        arith,
+        s .pre .1 .two,
+        s .pre .2,
+        mul-le-mul-right (s .args .self .each) (sub-le (s .args .a) 2),
+      );
+    }
 
 returns-2 : tie.Need-returns-2
 returns-2 c =

@@ -1,4 +1,5 @@
--- `search::place::Ahead::weigh` meets its contract: behind a nonzero level the cheaper of ending and going on, and then the offer against 0.
+-- `search::place::Ahead::weigh` meets its contract: behind a nonzero level the cheaper of ending and going on, and then
+-- the offer against 0.
 -- Assumes nothing.
 use mathlib.Core.Logic.{⊎-elim, inl, inr}
 use Prim.Native.Nat.{_≤_, _+_, _^_}
@@ -16,13 +17,20 @@ abbrev start : tie.Joined1 → tie.Start
 start j = squares j .before .before
 
 ways : (j : tie.Joined1) → Behind (start j .args .p) (start j .args .self) (j .if1 .behind) (j .if1 .on)
-ways j = ⊎-elim (λ w. inl (omega arith, omega arith, omega arith)) (λ w. inr (omega arith, omega arith, omega arith)) (j .if1 .came)
+ways j = ⊎-elim (λ w. inl (omega arith, omega arith, omega arith)) (λ w. inr (omega arith, omega arith, omega arith))
+    (j .if1 .came)
 
 -- a nonzero level, and what comes behind it
 small : (j : tie.Joined1) → j .if1 .behind + squares j .before .make-offer .result .price ≤ 2 ^ 62
 small j =
     let s = start j in
-    omega (arith, behind-small (s .args .p) (s .args .self) _ _ (ways j), s .pre .rest, s .pre .modest .last, squares j .before .make-offer .ensures .small)
+    omega (
+      arith,
+      behind-small (s .args .p) (s .args .self) _ _ (ways j),
+      s .pre .rest,
+      s .pre .modest .last,
+      squares j .before .make-offer .ensures .small,
+    )
 
 make-offer-requires : tie.Need-make-offer-requires
 make-offer-requires c κs = search needs
@@ -62,7 +70,8 @@ add-choose-3 c =
     record { fits = omega (arith, s .pre .zero, s .pre .modest .zero, squares j .squared-below .ensures .small) }
 
 add-choose-4 : tie.Need-add-choose-4
-add-choose-4 c = let j = priced (c .before .before .before) in record { fits = omega (arith, small j, start j .pre .modest .head) }
+add-choose-4 c = let j =
+    priced (c .before .before .before) in record { fits = omega (arith, small j, start j .pre .modest .head) }
 
 choose-requires-2 : tie.Need-choose-requires-2
 choose-requires-2 c κs = search needs
@@ -77,7 +86,8 @@ returns c =
     let j = priced (c .before .before .before .before .before) in
     let a = start j .args in
     let o = squares j .before .make-offer .ensures in
-    weighed (a .p) (a .self) _ _ (a .g) (a .l) (start j .pre .fine) _ o _ (squares j .squared-below .ensures .is) (ways j) _ _
+    weighed (a .p) (a .self) _ _ (a .g) (a .l) (start j .pre .fine) _ o _ (squares j .squared-below .ensures .is)
+    (ways j) _ _
     (c .before .before .before .before .choose .ensures) (c .before .choose2 .ensures)
 
 pub weigh-spec : {M : Type 1} → statement M
