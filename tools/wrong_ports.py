@@ -763,8 +763,8 @@ equal("lambda × (M+1) of 2^41 + 3 taken", "the nearest product past 2^41 is 2^4
 # ---- the stored requests, and who gets them wrong
 @functools.cache
 def stored():
-    """Of the requests made by hand, and of those drawn by chance: their part of the file as `tq` reads it, and the
-    recorded answers."""
+    """Of the requests made by hand, and of those drawn by chance: their part of the file as `tq` reads it, the last line
+    of the former without a newline, and the recorded answers."""
     files = []
     for name in ("stdin", "stdout"):
         with open(os.path.join(HERE, "crates", "tq", name), "rb") as f:
@@ -773,7 +773,7 @@ def stored():
     for is_chance in (False, True):
         asked = [(section == vectors.BY_CHANCE) == is_chance for section, _ in vectors.requests()]
         requests, answers = ([line for line, of_it in zip(lines, asked) if of_it] for lines in files)
-        parts.append((b"\n".join(requests), answers))
+        parts.append((b"\n".join(requests) + (b"\n" if is_chance else b""), answers))
     same = len(files[0]) == len(files[1]) == len(asked)
     assert same, "the stored requests are those of tools/vectors: run tools/record"
     return parts
