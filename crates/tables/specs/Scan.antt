@@ -6,6 +6,7 @@ use Prim.Native.Nat.{ℕ, zero, suc, _+_, _-_, _*_, _%_, _^_, min}
 use lib.Dec.{eqb}
 use lib.ListN.{getD}
 use Rattle.integers.specs.Tests.{listed}
+use Rattle.tables.specs.declared.scans.Scans.{Scans}
 
 -- the places of the largest block, 32 wide and 32 high: scan places and block places are counts below it
 abbrev pub mostPlaces : ℕ
@@ -59,3 +60,7 @@ scanAt w h p = getD (scan w h) p 0
 unfoldable pub square : ℕ → List ℕ
 unfolding scan
 square l = scan (2 ^ l) (2 ^ l)
+
+-- the scans of the five sides, as the table has them
+abbrev pub squares : Scans
+squares = record { two = square 1; four = square 2; eight = square 3; sixteen = square 4; thirtytwo = square 5 }

@@ -1,16 +1,24 @@
 // The scan, and the two kinds of places that it joins.
 use crate::scans::SCANS;
+use crate::scans::Scans;
 ghost use mathlib.Core.Path.{_≡_};
 ghost use Prim.Native.Nat.{_≤_, _<_, _*_, _^_};
 ghost use lib.ListN.{length, getD, set};
 ghost use lib.IntN.{pos};
-ghost use Rattle.tables.specs.Scan.{mostPlaces, scan, scanAt, square};
+ghost use Rattle.tables.specs.Scan.{mostPlaces, scan, scanAt, square, squares};
 
-// A place in scan order, and a place in the block by rows. What they hold is reached in this file alone, so that only
-// the lookup turns the first into the second, and none can be taken for the other.
+// A place in scan order, and a place in the block by rows: counts below `mostPlaces`. What they hold is reached in this
+// file alone, so that only the lookup turns the first into the second, and none can be taken for the other.
 pub struct ScanPlace(usize);
 
 pub struct BlockPlace(usize);
+
+// The listed table: the diagonal rule's numbers.
+fn listed() -> Scans
+    ensures { λ r. ⌜ r ≡ squares ⌝ }
+{
+    SCANS
+}
 
 fn copy(from: &[u16], to: &mut [u16])
     requires { ⌜ (length (now from) ≡ length (now to)) × (length (now to) ≤ mostPlaces) ⌝ }
@@ -24,26 +32,27 @@ fn copy(from: &[u16], to: &mut [u16])
     }
 }
 
-// The scan of a square block of side 2^log2, for the lookup: taken once a call. A call writes out the list of its side
-// alone.
+// The scan of a square block of side 2^log2, for the lookup: taken once a call. Of the table a call writes out the list
+// of its side alone.
 pub fn fill_scan(log2: usize, held: &mut [u16])
     requires { ⌜ (1 ≤ log2) × (log2 ≤ 5) × (length (now held) ≡ 4 ^ log2) ⌝ }
     ensures { λ _. ⌜ now (held .exit) ≡ square log2 ⌝ }
 {
+    let table = listed();
     if log2 == 1 {
-        let list = SCANS.two;
+        let list = table.two;
         copy(&list, held);
     } else if log2 == 2 {
-        let list = SCANS.four;
+        let list = table.four;
         copy(&list, held);
     } else if log2 == 3 {
-        let list = SCANS.eight;
+        let list = table.eight;
         copy(&list, held);
     } else if log2 == 4 {
-        let list = SCANS.sixteen;
+        let list = table.sixteen;
         copy(&list, held);
     } else {
-        let list = SCANS.thirtytwo;
+        let list = table.thirtytwo;
         copy(&list, held);
     }
 }

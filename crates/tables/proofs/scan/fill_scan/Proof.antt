@@ -1,113 +1,122 @@
--- `tables::scan::fill_scan` meets its contract. The listed numbers of each side are its scan, which antt computes; they
--- are copied.
+-- `tables::scan::fill_scan` meets its contract: a part of the table is the scan of its side, and the block's is copied.
 -- Assumes nothing.
-use mathlib.Core.Path.{_≡_, sym, ap, _∙_}
-use Prim.Native.Nat.{ℕ, _≤_, _^_}
+use mathlib.Core.Path.{_≡_, refl, sym, ap, _∙_}
+use mathlib.Core.List.{List}
+use Prim.Native.Nat.{ℕ, _≤_}
+use native.Mathlib.Nat.{pow-le-pow-right}
 use native.Mathlib.Omega.{arith}
+use lib.ListN.{length}
 use borrow.Author.Needs.{needs}
-use Rattle.tables.specs.Scan.{mostPlaces, square}
+use Rattle.tables.specs.declared.scans.Scans.{Scans}
+use Rattle.tables.specs.Scan.{mostPlaces, square, squares}
+use Rattle.tables.proofs.OneToOne.{square-length}
 use Rattle.tables.proofs.scan.fill_scan.Statement.{statement}
 use Rattle.tables.proofs.scan.fill_scan.Tie as tie
 
--- a list of the side's 4^k numbers fits what is lent
-fitting : (k : ℕ) {n l : ℕ} → n ≡ 4 ^ l → l ≡ k → 4 ^ k ≤ mostPlaces → (4 ^ k ≡ n) × (n ≤ mostPlaces)
-fitting k e q h =
-    let room = e ∙ ap (λ (m : ℕ). 4 ^ m) q in
-    (sym room, omega (arith, room))
+-- a part of the table that is the block's scan, and fits what is lent
+record Part (t : tie.After-listed) (of : Scans → List ℕ) : Type 0 where
+  is : of (t .listed .result) ≡ square (t .before .before .args .log2)
+  fits :
+      (length (of (t .listed .result)) ≡ length (t .before .before .args .held .now))
+      × (length (t .before .before .args .held .now) ≤ mostPlaces)
 
--- the side that is left
-largest : (l : ℕ) → 1 ≤ l → l ≤ 5 → (l ≡ 1 → ⊥) → (l ≡ 2 → ⊥) → (l ≡ 3 → ⊥) → (l ≡ 4 → ⊥) → l ≡ 5
-largest l a b n1 n2 n3 n4 = omega arith
+-- the part of the block's side
+part : {t : tie.After-listed} {of : Scans → List ℕ} (k : ℕ) → of squares ≡ square k → t .before .before .args .log2 ≡ k
+    → Part t of
+part {t} {of} k e side =
+    let h = t .before .before .pre in
+    let scanned = ap of (t .listed .ensures) ∙ e ∙ ap square (sym side) in
+    record {
+      is = scanned;
+      fits = (
+        ap length scanned ∙ square-length _ (h .1) ∙ sym (h .2),
+        omega (arith, h .2, pow-le-pow-right {n = 4} (omega arith) (h .1)),
+      );
+    }
 
-last-side : (c : tie.Else4) → c .before .before .before .before .before .args .log2 ≡ 5
-last-side c =
-    let s = c .before .before .before .before .before in
-    largest _ (s .pre .0) (s .pre .1) (c .before .before .before .if1 .left) (c .before .before .if2 .left)
-    (c .before .if3 .left) (c .if4 .left)
+two : (c : tie.Then1) → Part (c .before) (λ s. s .two)
+two c = part 1 refl (c .if1 .taken)
+
+four : (c : tie.Then2) → Part (c .before .before) (λ s. s .four)
+four c = part 2 refl (c .if2 .taken)
+
+eight : (c : tie.Then3) → Part (c .before .before .before) (λ s. s .eight)
+eight c = part 3 refl (c .if3 .taken)
+
+sixteen : (c : tie.Then4) → Part (c .before .before .before .before) (λ s. s .sixteen)
+sixteen c = part 4 refl (c .if4 .taken)
+
+thirtytwo : (c : tie.Else4) → Part (c .before .before .before .before) (λ s. s .thirtytwo)
+thirtytwo c = part 5 refl (omega arith)
+
+listed-requires : tie.Need-listed-requires
+listed-requires c κs = search needs
 
 slice-aggregate-copy : tie.Need-slice-aggregate-copy
 slice-aggregate-copy c = search needs
 
 copy-requires : tie.Need-copy-requires
-copy-requires c κs =
-    fitting 1 (c .before .before .before .before .before .pre .2) (c .before .before .before .if1 .taken) (omega arith)
+copy-requires c κs = two (c .before .before .before) .fits
 
 slice-aggregate-copy-2 : tie.Need-slice-aggregate-copy-2
 slice-aggregate-copy-2 c = search needs
 
 copy-requires-2 : tie.Need-copy-requires-2
-copy-requires-2 c κs =
-    fitting 2 (c .before .before .before .before .before .before .pre .2) (c .before .before .before .if2 .taken)
-    (omega arith)
+copy-requires-2 c κs = four (c .before .before .before) .fits
 
 slice-aggregate-copy-3 : tie.Need-slice-aggregate-copy-3
 slice-aggregate-copy-3 c = search needs
 
 copy-requires-3 : tie.Need-copy-requires-3
-copy-requires-3 c κs =
-    fitting 3 (c .before .before .before .before .before .before .before .pre .2)
-    (c .before .before .before .if3 .taken) (omega arith)
+copy-requires-3 c κs = eight (c .before .before .before) .fits
 
 slice-aggregate-copy-4 : tie.Need-slice-aggregate-copy-4
 slice-aggregate-copy-4 c = search needs
 
 copy-requires-4 : tie.Need-copy-requires-4
-copy-requires-4 c κs =
-    fitting 4 (c .before .before .before .before .before .before .before .before .pre .2)
-    (c .before .before .before .if4 .taken) (omega arith)
+copy-requires-4 c κs = sixteen (c .before .before .before) .fits
 
 slice-aggregate-copy-5 : tie.Need-slice-aggregate-copy-5
 slice-aggregate-copy-5 c = search needs
 
 copy-requires-5 : tie.Need-copy-requires-5
-copy-requires-5 c κs =
-    fitting 5 (c .before .before .before .before .before .before .before .before .pre .2)
-    (last-side (c .before .before .before)) (omega arith)
+copy-requires-5 c κs = thirtytwo (c .before .before .before) .fits
 
 same-length : tie.Need-same-length
 same-length c = search needs
 
 returns : tie.Need-returns
-unfolding square
-returns c = c .before .before .copy .ensures
-    ∙ ap square (sym (c .before .before .before .before .before .before .if1 .taken))
+returns c = c .before .before .copy .ensures ∙ two (c .before .before .before .before .before .before) .is
 
 same-length-2 : tie.Need-same-length-2
 same-length-2 c = search needs
 
 returns-2 : tie.Need-returns-2
-unfolding square
-returns-2 c =
-    c .before .before .copy2 .ensures ∙ ap square (sym (c .before .before .before .before .before .before .if2 .taken))
+returns-2 c = c .before .before .copy2 .ensures ∙ four (c .before .before .before .before .before .before) .is
 
 same-length-3 : tie.Need-same-length-3
 same-length-3 c = search needs
 
 returns-3 : tie.Need-returns-3
-unfolding square
-returns-3 c =
-    c .before .before .copy3 .ensures ∙ ap square (sym (c .before .before .before .before .before .before .if3 .taken))
+returns-3 c = c .before .before .copy3 .ensures ∙ eight (c .before .before .before .before .before .before) .is
 
 same-length-4 : tie.Need-same-length-4
 same-length-4 c = search needs
 
 returns-4 : tie.Need-returns-4
-unfolding square
-returns-4 c =
-    c .before .before .copy4 .ensures ∙ ap square (sym (c .before .before .before .before .before .before .if4 .taken))
+returns-4 c = c .before .before .copy4 .ensures ∙ sixteen (c .before .before .before .before .before .before) .is
 
 same-length-5 : tie.Need-same-length-5
 same-length-5 c = search needs
 
 returns-5 : tie.Need-returns-5
-unfolding square
-returns-5 c =
-    c .before .before .copy5 .ensures ∙ ap square (sym (last-side (c .before .before .before .before .before .before)))
+returns-5 c = c .before .before .copy5 .ensures ∙ thirtytwo (c .before .before .before .before .before .before) .is
 
 pub fill-scan-spec : {M : Type 1} → statement M
 fill-scan-spec =
     tie.close
     (tie.spec
+    listed-requires
     slice-aggregate-copy
     copy-requires
     slice-aggregate-copy-2
