@@ -12,7 +12,7 @@ use Rattle.tables.specs.OddRows.{oddRows}
 
 pub odd-rows-length : (h : ℕ) → length (oddRows h) ≡ h * h
 unfolding oddRows
-odd-rows-length h = listed-length (λ i. matrix (h + h) (2 * (i % h) + 1) (i / h)) 0 (h * h)
+odd-rows-length h = listed-length _ 0 (h * h)
 
 pub odd-row-at : (h n k : ℕ) → n < h → k < h → at (oddRows h) (n * h + k) ≡ matrix (h + h) (2 * k + 1) n
 unfolding oddRows

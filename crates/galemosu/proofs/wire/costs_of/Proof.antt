@@ -22,7 +22,7 @@ returns c =
     let level = c .before .before .eight2 .ensures in
     let last = c .before .four .ensures in
     let cbf = c .eight3 .ensures in
-    cc
+    rw (run, level, last, cbf)
 
 pub costs-of-spec : {M : Type 1} → statement M
 costs-of-spec =

@@ -32,7 +32,11 @@ costs-of-requires : tie.Need-costs-of-requires
 costs-of-requires c κs = search needs
 
 returns : tie.Need-returns
-returns c = cc
+returns c =
+    let v = c .before .before .before .before in
+    let u = v .before in
+    let y = u .before in
+    rw (y .settings-of .ensures, u .settings-of2 .ensures, v .settings-of3 .ensures, c .costs-of .ensures)
 
 pub request-of-spec : {M : Type 1} → statement M
 request-of-spec =
