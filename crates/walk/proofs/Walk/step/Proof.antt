@@ -3,6 +3,7 @@
 -- Assumes nothing.
 use mathlib.Core.Path.{refl, _∙_}
 use Prim.Native.Nat.{_≤_}
+use native.Mathlib.Omega.{arith}
 use borrow.Author.Needs.{needs}
 use Rattle.rule.specs.Prices.{ruleBy}
 use Rattle.walk.specs.Walking.{totalsOf}
@@ -40,8 +41,8 @@ returns c =
     let z = c .before .before .before .before .zero-at .ensures .0 in
     let h = c .before .before .before .head-at .ensures .0 in
     let b : c .before .before .before .before .before .squared-below .result ≤ a .self .base = rw d (s .pre .left) in
-    stays (a .p) (a .g) (a .n) (totalsOf (a .self)) (a .l) _ o _ _ _ _ d z h refl (s .pre .some) (c .before .if1 .taken)
-    b
+    stays (a .p) (a .g) (a .n) (totalsOf (a .self)) (a .l) _ o _ _ _ _ d z h refl (s .pre .some)
+    (omega (arith, c .before .if1 .taken)) b
 
 sub-b : tie.Need-sub-b
 sub-b c = search needs
