@@ -763,8 +763,8 @@ equal("lambda × (M+1) of 2^41 + 3 taken", "the nearest product past 2^41 is 2^4
 # ---- the stored requests, and who gets them wrong
 @functools.cache
 def stored():
-    """Of the requests made by hand, and of those drawn by chance: their part of the file as `tq` reads it, the last line
-    of the former without a newline, and the recorded answers."""
+    """Of the requests made by hand, and of those drawn by chance: their part of the file as `tq` reads it, the last
+    line of the former without a newline, and the recorded answers."""
     files = []
     for name in ("stdin", "stdout"):
         with open(os.path.join(HERE, "crates", "tq", name), "rb") as f:
