@@ -1,15 +1,15 @@
 // The exports that write the cheapest block of all: as those of lib.rt, but for the mode.
-use crate::wire::quantise;
-use crate::wire::sub_block;
-use quantise::Mode;
+use coding::Mode;
 use refusals::Component;
+use wire::quantise;
+use wire::sub_block;
 ghost use mathlib.Core.Path.{_≡_};
 ghost use Rattle.refusals.specs.declared.Component.the-variants.{Y, U, «V»};
-ghost use Rattle.quantise.specs.declared.Mode.the-variants.{Least};
-ghost use Rattle.quantise.specs.Call.{quantAnswer, quantBuffer};
-ghost use Rattle.subblock.specs.Call.{subBlockAnswer, subBlockBuffer};
-ghost use Rattle.galemosu.specs.Wire.{quantAsked, quantResult, quantWritten, threeAsked, threeResult};
-ghost use Rattle.galemosu.specs.Wire.{threeWritten};
+ghost use Rattle.coding.specs.declared.Mode.the-variants.{Least};
+ghost use Rattle.coding.specs.Call.{quantAnswer, quantBuffer};
+ghost use Rattle.components.specs.Call.{subBlockAnswer, subBlockBuffer};
+ghost use Rattle.wire.specs.Wire.{quantAsked, quantResult, quantWritten, threeAsked, threeResult};
+ghost use Rattle.wire.specs.Wire.{threeWritten};
 
 #[no_mangle]
 pub extern "C" fn galemosu_quantise_least_y(

@@ -1,33 +1,27 @@
 // The exports for C and Rust, nothing else: each takes whole numbers, f64s, slices and arrays, and answers 0 or a
 // refusal's number.
-use crate::wire::quantise;
-use crate::wire::sub_block;
-use quantise::Mode;
+use coding::Mode;
 use refusals::Component;
-use refusals::number;
-use transform::TransAnswer;
-use transform::trans;
+use wire::quantise;
+use wire::sub_block;
+use wire::transform;
 ghost use mathlib.Core.Path.{_≡_};
 ghost use Rattle.refusals.specs.declared.Component.the-variants.{Y, U, «V»};
 ghost use Rattle.transform.specs.Call.{called, transBuffer, transVerdict};
-ghost use Rattle.quantise.specs.declared.Mode.the-variants.{Walk};
-ghost use Rattle.quantise.specs.Call.{quantAnswer, quantBuffer};
-ghost use Rattle.subblock.specs.Call.{subBlockAnswer, subBlockBuffer};
-ghost use Rattle.galemosu.specs.Wire.{transResult, quantAsked, quantResult, quantWritten, threeAsked};
-ghost use Rattle.galemosu.specs.Wire.{threeResult, threeWritten};
+ghost use Rattle.coding.specs.declared.Mode.the-variants.{Walk};
+ghost use Rattle.coding.specs.Call.{quantAnswer, quantBuffer};
+ghost use Rattle.components.specs.Call.{subBlockAnswer, subBlockBuffer};
+ghost use Rattle.wire.specs.Wire.{transResult, quantAsked, quantResult, quantWritten, threeAsked};
+ghost use Rattle.wire.specs.Wire.{threeResult, threeWritten};
 
 mod least;
-mod wire;
 
 #[no_mangle]
 pub extern "C" fn galemosu_transform(block: &mut [i16], log2_w: usize, log2_h: usize) -> u32
-    ensures answer { λ r. ⌜ r ≡ transResult (transVerdict (called (now (block .entry)) «log2_w» «log2_h»)) ⌝ }
-    ensures buffer { λ _. ⌜ now (block .exit) ≡ transBuffer (called (now (block .entry)) «log2_w» «log2_h») ⌝ }
+    ensures result { λ r. ⌜ r ≡ transResult (transVerdict (called (now (block .entry)) «log2_w» «log2_h»)) ⌝ }
+    ensures block { λ _. ⌜ now (block .exit) ≡ transBuffer (called (now (block .entry)) «log2_w» «log2_h») ⌝ }
 {
-    match trans(block, log2_w, log2_h) {
-        TransAnswer::Accepted => 0,
-        TransAnswer::Refused(why) => number(why),
-    }
+    transform(block, log2_w, log2_h)
 }
 
 #[no_mangle]

@@ -1,27 +1,26 @@
 // A label's digit, coded block by block as a recorder would code it: each block of 8 by 8 beside its levels, and what
 // was kept, lowered and dropped of it. The picture comes from standard input, 16 lines of 16: # is ink, + an edge,
 // anything else paper.
-use crate::fate::Tally;
 use crate::page::show_levels;
 use crate::page::show_tally;
-use crate::picture::take_block;
+use coding::Coded;
+use coding::Coding;
+use coding::Mode;
+use coding::QuantAnswer;
+use fates::Tally;
 use libc::STDIN_FILENO;
 use libc::STDOUT_FILENO;
+use picture::take_block;
 use price::Costs;
 use price::Settings;
-use quantise::Coded;
-use quantise::Mode;
-use quantise::QuantAnswer;
 use quantise::quant_nnz;
 use refusals::Component;
 use transform::TransAnswer;
 use transform::trans;
 ghost use Prim.Native.Nat.{_<_};
-ghost use Rattle.label.specs.Fate.{Most};
+ghost use Rattle.fates.specs.Fate.{Most};
 
-mod fate;
 mod page;
-mod picture;
 
 // Such costs as a recorder has after some blocks.
 fn costs() -> Costs {
@@ -39,20 +38,19 @@ fn transformed(block: &mut [i16; 64]) -> TransAnswer {
 
 // Luma of an intra-coded block in an intra slice.
 fn code(block: &mut [i16; 64]) -> QuantAnswer {
-    let settings = Settings {
-        qp: 34,
-        lambda: 57.9,
+    let coding = Coding {
+        log2: 3,
+        component: Component::Y,
+        settings: Settings {
+            qp: 34,
+            lambda: 57.9,
+        },
+        intra_slice: true,
+        intra_coded: true,
+        costs: costs(),
+        mode: Mode::Walk,
     };
-    quant_nnz(
-        block,
-        3,
-        Component::Y,
-        settings,
-        true,
-        true,
-        costs(),
-        Mode::Walk,
-    )
+    quant_nnz(block, coding)
 }
 
 fn show_coded(tally: Tally, coded: Coded) {
@@ -74,12 +72,12 @@ fn show_block(picture: &[u8; 272], at: usize) -> Tally
     let mut block = take_block(picture, at);
     let TransAnswer::Accepted = transformed(&mut block) else {
         io::write_all(STDOUT_FILENO, b"the transform refused it\n");
-        return fate::tallied(0, 0, 0, 0);
+        return fates::tallied(0, 0, 0, 0);
     };
     let coefficients = block;
     let QuantAnswer::Coded(coded) = code(&mut block) else {
         io::write_all(STDOUT_FILENO, b"the quantiser refused it\n");
-        return fate::tallied(0, 0, 0, 0);
+        return fates::tallied(0, 0, 0, 0);
     };
     let tally = show_levels(picture, at, &coefficients, &block);
     show_coded(tally, coded);

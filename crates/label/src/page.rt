@@ -1,14 +1,14 @@
 // The page: a row of the picture beside its levels, and how many were kept, lowered and dropped.
-use crate::fate::Fate;
-use crate::fate::Tally;
-use crate::fate::became;
-use crate::fate::one;
-use crate::fate::tallied;
-use crate::picture::place;
+use coefficients::skip::absolute;
+use fates::Fate;
+use fates::Tally;
+use fates::became;
+use fates::one;
+use fates::tallied;
 use libc::STDOUT_FILENO;
-use quantise::skip::magnitude;
+use picture::place;
 ghost use Prim.Native.Nat.{_≤_, _<_, _+_};
-ghost use Rattle.label.specs.Fate.{Most};
+ghost use Rattle.fates.specs.Fate.{Most};
 
 fn mark(fate: Fate) -> u8 {
     match fate {
@@ -41,7 +41,7 @@ fn width(level: u32) -> usize
 fn put_level(line: &mut [u8; 66], at: usize, level: i16)
     requires { ⌜ at + 6 ≤ 66 ⌝ }
 {
-    let mut rest = magnitude(level);
+    let mut rest = absolute(level);
     let n = width(rest);
     let mut k = 0;
     while k < n {

@@ -21,7 +21,7 @@ pub fn put_natural(out: &mut [u8], at: usize, value: u64) -> usize
 }
 
 // -32768 has no negation in 16 bits.
-fn magnitude(value: i16) -> u64
+fn absolute(value: i16) -> u64
     ensures { λ r. ⌜ (r ≡ natAbs value) × (r ≤ 32768) ⌝ }
 {
     if value < 0 {
@@ -36,7 +36,7 @@ pub fn put_sample(out: &mut [u8], at: usize, value: i16) -> usize
     requires { ⌜ at + 21 ≤ length (now out) ⌝ }
     ensures { λ r. ⌜ Put (now (out .entry)) at (printedSample value) 6 (now (out .exit)) r ⌝ }
 {
-    let size = magnitude(value);
+    let size = absolute(value);
     if value < 0 {
         out[at] = b'-';
         return put_natural(out, at + 1, size);

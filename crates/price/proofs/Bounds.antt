@@ -14,7 +14,7 @@ use borrow.Author.Tests.{ltb-true}
 use Rattle.price.specs.Rule.{Rule, isZero, cost}
 use Rattle.price.specs.Price.{uncoded, squaredError, inFront, size, allZero, price}
 use Rattle.price.specs.Walk.{chosen, walked, written}
-use Rattle.price.specs.OnePass.{Totals, flag, advance, step, walk}
+use Rattle.price.specs.Inner.OnePass.{Totals, flag, advance, step, walk}
 use Rattle.price.proofs.Choice.{chosen-cheapest}
 use Rattle.price.proofs.Price.{rest, price-recursive, price-empty}
 use Rattle.price.proofs.OnePass.{step-base}

@@ -9,7 +9,7 @@ use Rattle.price.specs.Rule.{Rule}
 use Rattle.price.specs.Price.{price}
 use Rattle.price.specs.Walk.{written}
 use Rattle.price.specs.Cheapest.{cheapest}
-use Rattle.price.specs.Search.{some, found, foundPrice}
+use Rattle.price.specs.Inner.Search.{some, found, foundPrice}
 
 -- A place is the distortion of its 0; below 16 m is 1, else 2, and a magnitude 1 below m has distortion 4
 top : ℕ → ℕ

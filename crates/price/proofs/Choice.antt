@@ -5,11 +5,12 @@ use mathlib.Core.Path.{_≡_, refl, sym, ap, subst, _∙_}
 use mathlib.Core.Logic.{_⊎_, inl, inr, ⊎-elim}
 use mathlib.Core.Bool.{Bool, true, false, cond}
 use mathlib.Core.List.{List, [], _∷_}
-use Prim.Native.Nat.{ℕ, zero, suc, _-_, _≤_, _<_}
+use Prim.Native.Nat.{ℕ, zero, suc, _+_, _-_, _≤_, _<_}
 use native.Mathlib.Omega.{arith}
 use lib.Dec.{ltb}
 use lib.ListN.{length, getD}
-use borrow.Author.Tests.{ltb-true, ltb-false}
+use borrow.Author.Tests.{ltb-true, ltb-false, lt-ltb, le-ltb}
+use Rattle.integers.proofs.Order.{below-or-not}
 use Rattle.price.specs.Rule.{Rule, Allowed, isZero, cost}
 use Rattle.price.specs.Walk.{cheaper, firstLeast, chosen, walked, zeroBefore}
 
@@ -28,6 +29,20 @@ cheaper-is f a b = go (ltb (f b) (f a)) refl
         ltb-true (f b) (f a) e in record { first = omega arith; second = omega arith; which = inr (refl, h) }
     go false e = let h =
         ltb-false (f b) (f a) e in record { first = omega arith; second = omega arith; which = inl refl }
+
+-- costs that differ by the same everywhere have one first least
+pub same-least : (f g : ℕ → ℕ) (a b : ℕ) → ((k : ℕ) → f k + a ≡ g k + b) → (x : ℕ) (ks : List ℕ)
+    → firstLeast f x ks ≡ firstLeast g x ks
+unfolding cheaper firstLeast
+same-least f g a b e x [] = refl
+same-least f g a b e x (k ∷ ks) =
+    ap (λ (t : Bool). firstLeast f (cond t k x) ks) test ∙ same-least f g a b e (cheaper g x k) ks
+  where
+    test : ltb (f k) (f x) ≡ ltb (g k) (g x)
+    test =
+        ⊎-elim (λ (l : f k < f x). lt-ltb (f k) (f x) l ∙ sym (lt-ltb (g k) (g x) (omega (arith, e k, e x))))
+        (λ (l : f x ≤ f k). le-ltb (f k) (f x) l ∙ sym (le-ltb (g k) (g x) (omega (arith, e k, e x))))
+        (below-or-not (f k) (f x))
 
 -- c is the cheapest magnitude allowed where m is the rounded one
 pub record Cheapest (f : ℕ → ℕ) (m c : ℕ) : Type 0 where

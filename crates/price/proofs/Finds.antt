@@ -10,7 +10,7 @@ use Prim.Native.Nat.{ℕ, _+_, _≤_, _<_}
 use native.Mathlib.Omega.{arith}
 use lib.Dec.{ltb}
 use borrow.Author.Tests.{ltb-true, ltb-false}
-use Rattle.price.specs.Search.{Least, none, some, plus, under, lesser}
+use Rattle.price.specs.Inner.Search.{Least, none, some, plus, under, lesser}
 use Rattle.price.proofs.Best.{Wins, Best, best-of-same}
 use Rattle.price.proofs.Dictionary.{Before, before-led}
 use Rattle.price.proofs.Blocks.{Led, led-each}

@@ -1,5 +1,6 @@
 -- Places at which m is 0 may be taken for others at which it is 0: every block's price changes by the same, so the
--- cheapest block stays the cheapest. Code keeps nothing of such places. Assumes nothing.
+-- block that is walked and cut stays the same, and so does the cheapest. Code keeps nothing of such places.
+-- Assumes nothing.
 use mathlib.Core.Path.{_≡_, refl, sym, ap, subst, _∙_}
 use mathlib.Core.Logic.{_⊎_, inl, inr}
 use mathlib.Core.Bool.{Bool, true, false, cond}
@@ -8,11 +9,14 @@ use Prim.Native.Nat.{ℕ, _+_}
 use native.Mathlib.Omega.{arith}
 use Rattle.price.specs.Rule.{Rule, Allowed, isZero, cost}
 use Rattle.price.specs.Price.{uncoded, allZero, price}
+use Rattle.price.specs.Walk.{firstLeast, chosen, walked, cutAt, ends, cutOf, written}
 use Rattle.price.specs.Cheapest.{cheapest}
-use Rattle.price.specs.OnePass.{flag}
-use Rattle.price.proofs.Price.{rest, price-recursive}
-use Rattle.price.proofs.Tail.{only-zero}
-use Rattle.price.proofs.Blocks.{Block, block-length}
+use Rattle.price.specs.Inner.OnePass.{flag}
+use Rattle.price.proofs.Choice.{same-least, length-walked}
+use Rattle.price.proofs.Price.{length-cut, rest, price-recursive}
+use Rattle.price.proofs.Promises.{cut-zero-or-m-or-m-1}
+use Rattle.price.proofs.Tail.{only-zero, quiet-chosen}
+use Rattle.price.proofs.Blocks.{Block, block-length, allowed-block}
 use Rattle.price.proofs.Cheapest.{cheapest-allowed, none-cheaper, none-earlier, cheapest-unique}
 
 module _ (r : Rule) where
@@ -105,3 +109,37 @@ module _ (r : Rule) where
       ))
       (λ k b e. none-earlier r ps k (back k b)
       (omega (arith, e, lighter-price ps qs k h (back k b), lighter-price ps qs c h a)))
+
+  -- ---- the walk, and its cut
+  lighter-chosen : (z : Bool) (p q : ℕ) → Stands p q → chosen r z p ≡ chosen r z q
+  lighter-chosen z p q (inl e) = ap (chosen r z) e
+  lighter-chosen z p q (inr h) = quiet-chosen r z p (h .0) ∙ sym (quiet-chosen r z q (h .1))
+
+  lighter-walked : (z : Bool) (ps qs : List ℕ) → Lighter ps qs → walked r z ps ≡ walked r z qs
+  unfolding walked
+  lighter-walked z [] [] h = refl
+  lighter-walked z [] (q ∷ qs) h = absurd h
+  lighter-walked z (p ∷ ps) [] h = absurd h
+  lighter-walked z (p ∷ ps) (q ∷ qs) h =
+      ap (λ (a : ℕ). a ∷ walked r (isZero a) ps) (lighter-chosen z p q (h .0))
+      ∙ ap (λ (l : List ℕ). chosen r z q ∷ l) (lighter-walked (isZero (chosen r z q)) ps qs (h .1))
+
+  cut-block : (ps : List ℕ) (c : ℕ) → Block r ps (cutAt c (walked r false ps))
+  cut-block ps c =
+      allowed-block r ps (cutAt c (walked r false ps)) (length-cut c (walked r false ps) ∙ length-walked r false ps)
+      (cut-zero-or-m-or-m-1 r ps c)
+
+  module _ (ps qs : List ℕ) (h : Lighter ps qs) where
+    lighter-cut : cutOf r ps ≡ cutOf r qs
+    unfolding cutOf
+    lighter-cut =
+        let ls = walked r false ps in
+        same-least (λ k. price r (cutAt k ls) ps) (λ k. price r (cutAt k ls) qs) (uncoded r qs) (uncoded r ps)
+        (λ k. lighter-price ps qs (cutAt k ls) h (cut-block ps k)) 0 (ends 0 ls)
+        ∙ ap (λ (l : List ℕ). firstLeast (λ k. price r (cutAt k l) qs) 0 (ends 0 l)) (lighter-walked false ps qs h)
+
+    pub lighter-written : written r ps ≡ written r qs
+    unfolding written
+    lighter-written =
+        ap (λ (k : ℕ). cutAt k (walked r false ps)) lighter-cut
+        ∙ ap (cutAt (cutOf r qs)) (lighter-walked false ps qs h)

@@ -4,15 +4,15 @@
 use mathlib.Core.Path.{_≡_, refl, sym, ap, _∙_}
 use mathlib.Core.Bool.{Bool, true, false, cond}
 use mathlib.Core.List.{List, [], _∷_}
-use Prim.Native.Nat.{ℕ, zero, suc, _+_, _-_, _<_}
+use Prim.Native.Nat.{ℕ, zero, suc, _+_, _-_, _≤_, _<_}
 use native.Mathlib.Omega.{arith}
 use lib.Dec.{ltb}
 use lib.ListN.{length, getD, take}
 use Rattle.price.specs.Rule.{Rule, isZero, cost}
 use Rattle.price.specs.Price.{uncoded, price}
 use Rattle.price.specs.Walk.{firstLeast, chosen, walked, cutAt, ends, cutOf, written}
-use Rattle.price.specs.OnePass.{Totals, flag, start, advance, step, walk}
-use Rattle.price.proofs.Choice.{length-walked}
+use Rattle.price.specs.Inner.OnePass.{Totals, flag, startWith, start, advance, step, walk}
+use Rattle.price.proofs.Choice.{same-least, length-walked}
 use Rattle.price.proofs.Price.{rest, rest-here, rest-later, price-empty, price-cut}
 
 -- the total after a step: what was spent, what the place costs, its flag, and u, which is left of D
@@ -70,23 +70,40 @@ module _ (f : ℕ → ℕ) (r : Rule) where
       let i = follow (suc n) x ps (c + (cost r z p a + flag r a)) d (s .best) (prices-later n c z a p ls ps h) in
       (i .0, i .1 ∙ s .cut ls)
 
-module _ (r : Rule) (ps : List ℕ) where
+-- D may be over more than the places walked: the walk is the same, and its price has the rest of D besides
+module _ (r : Rule) (ps : List ℕ) (d : ℕ) (h : uncoded r ps ≤ d) where
+  beside : ℕ
+  beside = d - uncoded r ps
+
   cut-price : ℕ → ℕ
   cut-price k = price r (cutAt k (walked r false ps)) ps
 
-  found : (let v = walk r 0 (start r ps) ps in (v .best ≡ cut-price (v .cut)) × (v .cut ≡ cutOf r ps))
-  unfolding start cutOf cut-price
+  found : (let v = walk r 0 (startWith r d) ps in
+      (v .best ≡ beside + cut-price (v .cut)) × (v .cut ≡ cutOf r ps))
+  unfolding startWith cutOf beside cut-price
   found =
       let ls = walked r false ps in
-      follow cut-price r 0 (start r ps) ps (r .coded) (omega arith) (sym (price-empty r ls ps))
-      (λ k j e h. let i : j ≡ suc k = omega arith in rw i (price-cut r ls ps k (length-walked r false ps) h))
+      let s = follow (λ k. beside + cut-price k) r 0 (startWith r d) ps (beside + r .coded) (omega arith)
+      (omega (arith, price-empty r ls ps))
+      (λ k j e l. let i : j ≡ suc k = omega arith in
+      rw i (omega (arith, price-cut r ls ps k (length-walked r false ps) l))) in
+      (s .0, s .1 ∙ same-least (λ k. beside + cut-price k) cut-price 0 beside (λ k. omega arith) 0 (ends 0 ls))
 
+  pub one-pass-cut-with : (walk r 0 (startWith r d) ps) .cut ≡ cutOf r ps
+  one-pass-cut-with = found .1
+
+  pub one-pass-price-with : (walk r 0 (startWith r d) ps) .best + uncoded r ps ≡ d + price r (written r ps) ps
+  unfolding written beside cut-price
+  one-pass-price-with = omega (arith, found .0, ap cut-price (found .1))
+
+module _ (r : Rule) (ps : List ℕ) where
   pub one-pass-cut : (walk r 0 (start r ps) ps) .cut ≡ cutOf r ps
-  one-pass-cut = found .1
+  unfolding start
+  one-pass-cut = one-pass-cut-with r ps (uncoded r ps) (omega arith)
 
   pub one-pass-price : (walk r 0 (start r ps) ps) .best ≡ price r (written r ps) ps
-  unfolding written cut-price
-  one-pass-price = found .0 ∙ ap cut-price (found .1)
+  unfolding start
+  one-pass-price = omega (arith, one-pass-price-with r ps (uncoded r ps) (omega arith))
 
 -- the level that a step leaves is the magnitude walked there
 pub one-pass-level : (r : Rule) (n : ℕ) (w : Totals) (ps : List ℕ) (i : ℕ) → i < length ps

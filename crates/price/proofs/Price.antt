@@ -12,7 +12,7 @@ use lib.ListN.{length, getD, take, drop}
 use Rattle.price.specs.Rule.{Rule, isZero, cost}
 use Rattle.price.specs.Price.{uncoded, costs, nonzeros, inFront, size, allZero, price}
 use Rattle.price.specs.Walk.{cutAt}
-use Rattle.price.specs.OnePass.{flag}
+use Rattle.price.specs.Inner.OnePass.{flag}
 
 -- what is paid from a place on, but for the coded flag, where a nonzero level is still to come
 unfoldable pub rest : Rule → Bool → List ℕ → List ℕ → ℕ

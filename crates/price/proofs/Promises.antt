@@ -55,12 +55,16 @@ module _ (r : Rule) (ps : List ℕ) where
   pub count-at-most-places : nonzeros (written r ps) ≤ length ps
   count-at-most-places = omega (arith, nonzeros-at-most (written r ps), written-length)
 
-  -- a magnitude written is 0, m or m - 1
+  -- a magnitude of the walk, wherever it is cut, is 0, m or m - 1, and so is one that is written
+  pub cut-zero-or-m-or-m-1 : (c k : ℕ) → k < length ps
+      → Allowed (r .top (getD ps k 0)) (getD (cutAt c (walked r false ps)) k 0)
+  cut-zero-or-m-or-m-1 c k h =
+      ⊎-elim (λ e. inl e) (λ e. rw e (walked-cheapest r false ps k h .allowed))
+      (cut-level c (walked r false ps) k)
+
   pub written-zero-or-m-or-m-1 : (k : ℕ) → k < length ps → Allowed (r .top (getD ps k 0)) (getD (written r ps) k 0)
   unfolding written
-  written-zero-or-m-or-m-1 k h =
-      ⊎-elim (λ e. inl e) (λ e. rw e (walked-cheapest r false ps k h .allowed))
-      (cut-level (cutOf r ps) (walked r false ps) k)
+  written-zero-or-m-or-m-1 = cut-zero-or-m-or-m-1 (cutOf r ps)
 
   -- the block written is no dearer than the empty block or the walk cut behind any nonzero level
   pub written-no-dearer : (k : ℕ) → Cut (walked r false ps) k

@@ -11,10 +11,11 @@ use Rattle.price.specs.Rule.{Rule, Allowed, isZero, cost}
 use Rattle.price.specs.Price.{uncoded, inFront, size, allZero, price}
 use Rattle.price.specs.Walk.{cheaper, firstLeast}
 use Rattle.price.specs.Cheapest.{emptyBlock, cheapest}
-use Rattle.price.specs.Search.{Least, none, some, plus, under, lesser, Ahead, after, ending, goingOn, goesOn}
-use Rattle.price.specs.Search.{behind, offer}
-use Rattle.price.specs.Search.{withZero, withLevel, takenBy, leastBy, taken, ahead, readOff}
-use Rattle.price.specs.Search.{codedPrice, emptyPrice, isCoded, found, foundPrice}
+use Rattle.price.specs.Inner.Search.{Least, none, some, plus, under, lesser, Ahead, after, ending, goingOn}
+use Rattle.price.specs.Inner.Search.{goesOn}
+use Rattle.price.specs.Inner.Search.{behind, offer}
+use Rattle.price.specs.Inner.Search.{withZero, withLevel, takenBy, leastBy, taken, ahead, readOff}
+use Rattle.price.specs.Inner.Search.{codedPrice, emptyPrice, isCoded, found, foundPrice}
 use Rattle.price.proofs.Best.{Best, best-unique, best-of-same, first-least-best}
 use Rattle.price.proofs.Price.{rest, price-recursive}
 use Rattle.price.proofs.Cut.{smaller-first}

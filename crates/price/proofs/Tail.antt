@@ -11,7 +11,7 @@ use lib.ListN.{length, getD, take, drop}
 use Rattle.price.specs.Rule.{Rule, Allowed, isZero}
 use Rattle.price.specs.Price.{price}
 use Rattle.price.specs.Walk.{chosen, cutOf, written}
-use Rattle.price.specs.OnePass.{Totals, start, advance, step, walk}
+use Rattle.price.specs.Inner.OnePass.{Totals, start, advance, step, walk}
 use Rattle.price.proofs.Choice.{chosen-cheapest}
 use Rattle.price.proofs.OnePass.{one-pass-cut, one-pass-price}
 

@@ -8,7 +8,7 @@ use lib.IntN.{pos, negsuc}
 use lib.Ieee.{nan, inf, fin}
 use Rattle.price.specs.declared.Costs.{Costs}
 use Rattle.price.specs.Lambda.{lambdaRefused, lambdaOf}
-use Rattle.price.specs.Level.{shiftOf, scaled, magnitude, error, distortion, threshold}
+use Rattle.price.specs.Level.{shiftOf, scaled, nearest, error, distortion, threshold}
 use Rattle.price.specs.Costs.{costRefused, Rows, rate}
 
 -- ---- lambda's whole number: of 0, -0, 1/1024, 1/64, 1/32768 and 8192
@@ -82,12 +82,12 @@ refuses-minus-infinity = refl
 
 -- ---- the quantiser's numbers
 -- P10: side 32, QP 3
-largest-level : magnitude (shiftOf 5 3) (scaled 18396 (negsuc 29182)) ≡ 32767
-unfolding shiftOf scaled magnitude
+largest-level : nearest (shiftOf 5 3) (scaled 18396 (negsuc 29182)) ≡ 32767
+unfolding shiftOf scaled nearest
 largest-level = refl
 
-level-above : magnitude (shiftOf 5 3) (scaled 18396 (pos 29184)) ≡ 32768
-unfolding shiftOf scaled magnitude
+level-above : nearest (shiftOf 5 3) (scaled 18396 (pos 29184)) ≡ 32768
+unfolding shiftOf scaled nearest
 level-above = refl
 
 -- 6 QP are one bit

@@ -15,8 +15,8 @@ unfoldable pub scaled : ℕ → ℤ → ℕ
 scaled q c = natAbs c * q
 
 -- m = (L + 2^(b-1)) >> b
-unfoldable pub magnitude : ℕ → ℕ → ℕ
-magnitude b L = (L + 2 ^ (b - 1)) / 2 ^ b
+unfoldable pub nearest : ℕ → ℕ → ℕ
+nearest b L = (L + 2 ^ (b - 1)) / 2 ^ b
 
 -- the error of magnitude a: ((L - a·2^b)·E) >> 20, flooring also below 0
 unfoldable pub error : ℕ → ℕ → ℕ → ℕ → ℤ

@@ -1,9 +1,9 @@
 pub mod Lambda
 pub mod Level
 pub mod Costs
+pub mod Rows
 pub mod Rule
 pub mod Price
 pub mod Walk
-pub mod OnePass
 pub mod Cheapest
-pub mod Search
+pub mod Inner

@@ -6,28 +6,26 @@ use crate::reply::of_sub_block;
 use crate::reply::of_transform;
 use crate::reply::put_malformed;
 use crate::reply::put_reply;
-use crate::request::Count;
-use crate::request::Place;
-use crate::request::quantise_by;
-use crate::request::read_count;
-use crate::request::read_head;
-use crate::request::read_samples;
-use crate::request::request_of;
-use crate::verb::Named;
-use crate::verb::Verb;
-use crate::verb::read_verb;
-use crate::words::word_end;
+use calls::coding_of;
+use calls::request_of;
+use quantise::quant_nnz;
+use requests::request::Count;
+use requests::request::Place;
+use requests::request::read_count;
+use requests::request::read_head;
+use requests::request::read_samples;
+use requests::words::word_end;
 use subblock::sub_block_tq;
 use transform::trans;
+use verbs::Named;
+use verbs::Verb;
+use verbs::read_verb;
 ghost use mathlib.Core.Path.{_≡_};
 ghost use Prim.Native.Nat.{_≤_};
 ghost use lib.ListN.{length};
-ghost use Rattle.protocol.specs.Request.{kindsOf, Limited};
+ghost use Rattle.requests.specs.Request.{kindsOf, Limited};
 
 mod reply;
-mod request;
-mod verb;
-mod words;
 
 // What a call answers. `read_head` says what stands where in the fields.
 fn call(verb: Verb, room: &mut [i16], fields: &[u64; 40]) -> Reply
@@ -36,7 +34,7 @@ fn call(verb: Verb, room: &mut [i16], fields: &[u64; 40]) -> Reply
 {
     match verb {
         Verb::Transform => { of_transform(trans(room, fields[0] as usize, fields[1] as usize)) }
-        Verb::Quantise(mode) => of_quantise(quantise_by(room, fields, mode)),
+        Verb::Quantise(mode) => of_quantise(quant_nnz(room, coding_of(fields, mode))),
         Verb::SubBlock(mode) => of_sub_block(sub_block_tq(room, request_of(fields, mode))),
     }
 }

@@ -1,11 +1,11 @@
 // Answers as text, from the start of the room for them.
+use coding::QuantAnswer;
+use components::SubBlockAnswer;
 use numerals::text::put_natural;
 use numerals::text::put_sample;
 use numerals::text::put_word;
-use quantise::QuantAnswer;
 use refusals::component_number;
 use refusals::number;
-use subblock::SubBlockAnswer;
 use transform::TransAnswer;
 ghost use mathlib.Core.Path.{_≡_};
 ghost use Prim.Native.Nat.{_+_, _≤_};

@@ -10,14 +10,14 @@ use lib.IntN.{ℤ, natAbs}
 use Rattle.integers.specs.Sum.{at, over, onMax}
 use Rattle.integers.proofs.Order.{below-or-not}
 use Rattle.price.specs.declared.Costs.{Costs}
-use Rattle.price.specs.Level.{scaled, magnitude}
+use Rattle.price.specs.Level.{scaled, nearest}
 use Rattle.price.specs.Costs.{InRange, Rows, entry}
-use Rattle.rule.specs.declared.scale.Scale.{Scale}
-use Rattle.rule.specs.declared.prices.Prices.{Prices}
-use Rattle.rule.specs.Scale.{Sound}
-use Rattle.rule.specs.Prices.{Fine, pricesOf}
-use Rattle.quantise.specs.Code.{Held, Within}
-use Rattle.quantise.proofs.Reaching.{magnitude-grows, within-largest}
+use Rattle.weights.specs.declared.scale.Scale.{Scale}
+use Rattle.weights.specs.declared.prices.Prices.{Prices}
+use Rattle.weights.specs.Inner.Scale.{Sound}
+use Rattle.weights.specs.Inner.Prices.{Fine, pricesOf}
+use Rattle.coefficients.specs.Inner.Coefficients.{Held, Within}
+use Rattle.coefficients.proofs.Reaching.{nearest-grows, within-largest}
 
 -- one step of a level costs at most lambda·2^20
 pub each-small : (sign lambda : ℕ) (t : Costs) (rows : Rows) (p : Prices) → InRange t → p ≡ pricesOf sign lambda t rows
@@ -30,19 +30,19 @@ module _ (B : List ℤ) (top : ℕ) (e : top ≡ over onMax natAbs B) (few : top
   pub all-few : Within B 32767
   all-few k = omega (arith, within-largest B k)
 
-  pub all-fine : (g : Scale) → Sound g → (p : Prices) (lambda m : ℕ) → m ≡ magnitude (g .shift) (top * g .q) → m ≤ 32767
+  pub all-fine : (g : Scale) → Sound g → (p : Prices) (lambda m : ℕ) → m ≡ nearest (g .shift) (top * g .q) → m ≤ 32767
       → lambda * suc m ≤ 2 ^ 41
       → p .each ≤ lambda * 1048576 → (k : ℕ) → Fine p g (scaled (g .q) (at B k))
   unfolding scaled
   all-fine g s p lambda m em hm hp he k =
       let a = natAbs (at B k) in
       let le : a ≤ top = omega (arith, within-largest B k) in
-      let grown : magnitude (g .shift) (a * g .q) ≤ m =
-      omega (arith, magnitude-grows (g .shift) (a * g .q) (top * g .q) (mul-le-mul-right (g .q) le)) in
+      let grown : nearest (g .shift) (a * g .q) ≤ m =
+      omega (arith, nearest-grows (g .shift) (a * g .q) (top * g .q) (mul-le-mul-right (g .q) le)) in
       let wide : g .q * g .error ≤ 16384 * 2 ^ 20 =
       omega (arith, s .exact, mul-le-mul-right (2 ^ 20) (s .wide-front)) in
       let near : a * (g .q * g .error) ≤ 32767 * (16384 * 2 ^ 20) = mul-le-mul (all-few k) wide in
-      let dear : magnitude (g .shift) (a * g .q) * p .each ≤ m * (lambda * 1048576) = mul-le-mul grown he in
+      let dear : nearest (g .shift) (a * g .q) * p .each ≤ m * (lambda * 1048576) = mul-le-mul grown he in
       let split : m * (lambda * 1048576) ≡ lambda * m * 1048576 = mul-left-comm m lambda 1048576
       ∙ sym (mul-assoc lambda m 1048576) in
       let below : lambda * m ≤ lambda * suc m = mul-le-mul-left lambda (omega arith) in

@@ -19,40 +19,41 @@ use Rattle.tables.specs.Scan.{scan, scanAt}
 use Rattle.tables.specs.Scales.{forward, scaleOf, errorScale}
 use Rattle.tables.proofs.OneToOne.{scan-length}
 use Rattle.tables.proofs.Order.{scan-over, scan-hit}
-use Rattle.refusals.specs.declared.Component.{Component}
 use Rattle.refusals.specs.Numbers.{numberOf, componentOf}
-use Rattle.refusals.specs.Faults.{Fault, outside}
+use Rattle.refusals.specs.Sides.{mostLog2}
+use Rattle.refusals.specs.Faults.{Fault, refused, outside}
 use Rattle.refusals.proofs.First.{First, later, None, end, but, refused-with-the-first, accepted-without-a-fault}
 use Rattle.price.specs.declared.Costs.{Costs}
 use Rattle.price.specs.declared.Settings.{Settings}
 use Rattle.price.specs.Lambda.{lambdaRefused}
-use Rattle.price.specs.Level.{shiftOf, scaled, magnitude, distortion, threshold, signed}
-use Rattle.price.specs.Costs.{costRefused, rate}
+use Rattle.price.specs.Level.{shiftOf, scaled, nearest, distortion, threshold, signed}
+use Rattle.price.specs.Costs.{Rows, costRefused, rate}
 use Rattle.price.specs.Rule.{Rule}
 use Rattle.price.specs.Price.{uncoded, nonzeros, price}
-use Rattle.quantise.specs.declared.Coded.{Coded}
-use Rattle.rule.specs.declared.scale.Scale.{Scale}
-use Rattle.rule.specs.declared.prices.Prices.{Prices}
-use Rattle.rule.specs.Rows.{rowsOf}
-use Rattle.quantise.specs.declared.Mode.{Mode}
-use Rattle.quantise.specs.Block.{Quant, calledIn, writtenIn, sideOf, area, scaleHere, shiftHere, lambdaHere}
-use Rattle.quantise.specs.Block.{ruleOf, blockPlaces, scanned, places, isSkipped, largest, magnitudes, signs}
-use Rattle.quantise.specs.Block.{laid, countOf, priceOf, quantised}
-use Rattle.quantise.specs.Call.{sideFault, qpFault, lambdaFault, costFault, lengthFault, sampleFault, largestHere}
-use Rattle.quantise.specs.Call.{levelFault, priceFault, uncodedHere, distortionFault, quantFaults, quantVerdict}
-use Rattle.quantise.specs.Call.{coded, refusedWith, quantAnswer, quantBuffer}
-use Rattle.rule.specs.Scale.{ScaleOf}
-use Rattle.rule.specs.Prices.{pricesOf, ruleBy}
-use Rattle.quantise.specs.Code.{zeroDistortion, placesBy, inOrder, CodedAs}
-use Rattle.rule.proofs.Pricing.{rate-weighed}
-use Rattle.quantise.proofs.Reaching.{largest-is}
-use Rattle.quantise.proofs.Signing.{signs-at, signs-length}
-use Rattle.quantise.proofs.Laid.{laid-length, laid-on-scan}
+use Rattle.coding.specs.declared.Coded.{Coded}
+use Rattle.weights.specs.declared.scale.Scale.{Scale}
+use Rattle.weights.specs.declared.prices.Prices.{Prices}
+use Rattle.price.specs.Rows.{rowsOf}
+use Rattle.coding.specs.declared.Coding.{Coding}
+use Rattle.coding.specs.Block.{Quant, called, writtenIn, log2Of, area, scaleHere, shiftHere, lambdaHere}
+use Rattle.coding.specs.Block.{rowsHere, ruleOf, blockPlaces, scanned, places, isSkipped, largest, magnitudes, signs}
+use Rattle.coding.specs.Block.{laid, countOf, priceOf, quantised}
+use Rattle.coding.specs.Call.{sideFault, qpFault, lambdaFault, costFault, lengthFault, sampleFault, largestHere}
+use Rattle.coding.specs.Call.{levelFault, priceFault, uncodedHere, distortionFault, quantFaults, quantVerdict}
+use Rattle.coding.specs.Call.{coded, quantAnswer, quantBuffer}
+use Rattle.weights.specs.Inner.Scale.{ScaleOf}
+use Rattle.weights.specs.Inner.Prices.{pricesOf, ruleBy}
+use Rattle.quantise.specs.Inner.Early.{EarlyPassed}
+use Rattle.coefficients.specs.Inner.Coefficients.{zeroDistortion}
+use Rattle.levels.specs.Inner.Levels.{placesBy, inOrder, CodedAs}
+use Rattle.weights.proofs.Pricing.{rate-weighed}
+use Rattle.coefficients.proofs.Reaching.{largest-is}
+use Rattle.coding.proofs.Laid.{signs-at, signs-length, laid-length, laid-on-scan}
 
 -- ---- the two ways out
 module _ (c : Quant) where
   pub refused-answer : {f : Fault Quant} → First c f quantFaults
-      → (quantAnswer c ≡ refusedWith (numberOf (f .refusal)) (componentOf (f .component c)))
+      → (quantAnswer c ≡ refused (numberOf (f .refusal)) (componentOf (f .component c)))
       × (quantBuffer c ≡ c .buffer)
   unfolding quantAnswer quantBuffer quantVerdict
   refused-answer h = let e = refused-with-the-first c quantFaults h in rw e (refl, refl)
@@ -61,6 +62,10 @@ module _ (c : Quant) where
       × (quantBuffer c ≡ quantised c)
   unfolding quantAnswer quantBuffer quantVerdict
   accepted-answer h = let e = accepted-without-a-fault c quantFaults h in rw e (refl, refl)
+
+-- the faults that the coefficients show, behind those of sides, settings, costs and length
+abbrev pub late : List (Fault Quant)
+late = sampleFault ∷ levelFault ∷ priceFault ∷ distortionFault ∷ []
 
 -- sums over places are sums over the block
 largest-over : (m : ℕ → ℕ) (ps : List ℕ) → largest m ps ≡ over onMax m ps
@@ -77,7 +82,7 @@ uncoded-over r (p ∷ ps) = ap (λ (n : ℕ). r .dist p 0 + n) (uncoded-over r p
 made : ℕ → ℕ → (Bool → ℕ → ℕ) → Prices → Rule
 made b e rate p =
     record {
-      top = magnitude b;
+      top = nearest b;
       dist = distortion b e;
       rate = rate;
       coded = p .coded;
@@ -86,49 +91,65 @@ made b e rate p =
       last = p .last;
     }
 
-module _ (v : Mode) (B : List ℤ) (l : ℕ) (k : Component) (s : Settings) (i j : Bool) (t : Costs) where
+module _ (B : List ℤ) (a : Coding) where
   abbrev pub call : Quant
-  call = calledIn v B l k s i j t
+  call = called B a
+
+  -- its inputs by short names
+  abbrev l : ℕ
+  l = a .log2
+
+  abbrev s : Settings
+  s = a .settings
+
+  abbrev t : Costs
+  t = a .costs
+
+  abbrev intra : Bool
+  intra = a .«intra_slice»
+
+  abbrev rows : Rows
+  rows = rowsOf (a .component) (a .«intra_coded»)
 
   -- ---- the first five faults
-  pub side-test : (b : Bool) → outside 1 5 l ≡ b → sideFault .holds call ≡ b
-  unfolding sideFault calledIn
+  pub side-test : (b : Bool) → outside 1 mostLog2 l ≡ b → sideFault .holds call ≡ b
+  unfolding sideFault called
   side-test b e = rw e (twice b)
     where
       twice : (b : Bool) → (b || b) ≡ b
       twice true = refl
       twice false = refl
 
-  side-right : 1 ≤ l → l ≤ 5 → sideFault .holds call ≡ false
-  unfolding sideFault calledIn
-  side-right g h = rw (le-leb 1 l g, le-leb l 5 h)
+  side-right : 1 ≤ l → l ≤ mostLog2 → sideFault .holds call ≡ false
+  unfolding sideFault called
+  side-right g h = rw (le-leb 1 l g, le-leb l mostLog2 h)
 
   pub qp-high : 63 < s .qp → qpFault .holds call ≡ true
-  unfolding qpFault calledIn
+  unfolding qpFault called
   qp-high h = lt-ltb 63 (s .qp) h
 
   pub qp-right : s .qp ≤ 63 → qpFault .holds call ≡ false
-  unfolding qpFault calledIn
+  unfolding qpFault called
   qp-right h = le-ltb 63 (s .qp) h
 
   pub lambda-test : (b : Bool) → lambdaRefused (s .lambda) ≡ b → lambdaFault .holds call ≡ b
-  unfolding lambdaFault calledIn
+  unfolding lambdaFault called
   lambda-test b e = e
 
   pub cost-test : (b : Bool) → costRefused t ≡ b → costFault .holds call ≡ b
-  unfolding costFault calledIn
+  unfolding costFault called
   cost-test b e = e
 
   pub length-low : length B < 2 ^ l * 2 ^ l → lengthFault .holds call ≡ true
-  unfolding lengthFault calledIn area
+  unfolding lengthFault called area
   length-low h = lt-ltb (length B) (2 ^ l * 2 ^ l) h
 
   pub length-right : 2 ^ l * 2 ^ l ≤ length B → lengthFault .holds call ≡ false
-  unfolding lengthFault calledIn area
+  unfolding lengthFault called area
   length-right h = le-ltb (length B) (2 ^ l * 2 ^ l) h
 
   -- ---- a block that has its own buffer
-  module _ (lo : 1 ≤ l) (hi : l ≤ 5) (room : length B ≡ 2 ^ l * 2 ^ l) where
+  module _ (early : EarlyPassed B a) where
     abbrev side : ℕ
     side = 2 ^ l
 
@@ -136,39 +157,41 @@ module _ (v : Mode) (B : List ℤ) (l : ℕ) (k : Component) (s : Settings) (i j
     some-side = pow-pos l
 
     full : length (scan side side) ≡ side * side
-    full = scan-length l l hi hi
+    full = scan-length l l (early .high) (early .high)
 
-    in-block : {A : Type 0} {o : Addition A} → Lawful o → (f : ℤ → A) → over o f (inOrder side B) ≡ over o f B
+    in-block : {A : Type 0} {o : Addition A} → Lawful o → (f : ℤ → A) → over o f (inOrder side side B) ≡ over o f B
     in-block {o = o} a f =
-        scan-over side side some-side some-side full a f B (pos 0) (omega arith)
-        ∙ ap (over o f) (take-all (side * side) B (omega arith))
+        scan-over side side some-side some-side full a f B (pos 0) (omega (arith, early .long))
+        ∙ ap (over o f) (take-all (side * side) B (omega (arith, early .long)))
 
     half-sum : (l + l) / 2 ≡ l
     half-sum = omega arith
 
-    pub scanned-here : scanned call ≡ inOrder side B
-    unfolding scanned blockPlaces calledIn
+    pub scanned-here : scanned call ≡ inOrder side side B
+    unfolding scanned blockPlaces called
     scanned-here = refl
 
     -- the quick skip
     pub skipped-here : isSkipped call
-        ≡ not (some (λ z. leb (threshold i (shiftOf l (s .qp))) (scaled (scaleOf forward (s .qp)) z)) B)
-    unfolding isSkipped shiftHere sideOf places scanned blockPlaces scaleHere calledIn
+        ≡ not (some (λ z. leb (threshold intra (shiftOf l (s .qp))) (scaled (scaleOf forward (s .qp)) z)) B)
+    unfolding isSkipped shiftHere log2Of places scanned blockPlaces scaleHere called
     skipped-here =
-        let u = threshold i (shiftOf l (s .qp)) in
+        let u = threshold intra (shiftOf l (s .qp)) in
         let q = scaleOf forward (s .qp) in
         ap (λ (n : ℕ). not
-        (some (λ L. leb (threshold i (shiftOf n (s .qp))) L) (map (λ z. scaled q z) (inOrder side B)))) half-sum
+        (some (λ L. leb (threshold intra (shiftOf n (s .qp))) L) (map (λ z. scaled q z) (inOrder side side B))))
+        half-sum
         ∙ ap not
-        (some-over (λ L. leb u L) (map (λ z. scaled q z) (inOrder side B))
-        ∙ over-map onOr (λ L. leb u L) (λ z. scaled q z) (inOrder side B)
+        (some-over (λ L. leb u L) (map (λ z. scaled q z) (inOrder side side B))
+        ∙ over-map onOr (λ L. leb u L) (λ z. scaled q z) (inOrder side side B)
         ∙ in-block tests (λ z. leb u (scaled q z))
         ∙ sym (some-over (λ z. leb u (scaled q z)) B))
 
     -- ---- the last four faults
     pub sample-here : (b : Bool) → some (λ z. eqℤ z (negsuc 32767)) B ≡ b → sampleFault .holds call ≡ b
-    unfolding sampleFault calledIn area
-    sample-here b e = ap (some (λ z. eqℤ z (negsuc 32767))) (take-all (2 ^ l * 2 ^ l) B (omega arith)) ∙ e
+    unfolding sampleFault called area
+    sample-here b e =
+        ap (some (λ z. eqℤ z (negsuc 32767))) (take-all (2 ^ l * 2 ^ l) B (omega (arith, early .long))) ∙ e
 
     module _ (not-skipped : isSkipped call ≡ false) where
       pub level-here : (b : Bool) → ltb 32767 (largestHere call) ≡ b → levelFault .holds call ≡ b
@@ -184,167 +207,165 @@ module _ (v : Mode) (B : List ℤ) (l : ℕ) (k : Component) (s : Settings) (i j
       unfolding distortionFault
       distortion-here b e = rw not-skipped e
 
-    module _ (hq : s .qp ≤ 63) (hl : lambdaRefused (s .lambda) ≡ false) (hc : costRefused t ≡ false) where
-      pub past-five : {f : Fault Quant} → First call f (sampleFault ∷ levelFault ∷ priceFault ∷ distortionFault ∷ [])
-          → First call f quantFaults
-      unfolding quantFaults
-      past-five h =
-          later (side-right lo hi)
-          (later (qp-right hq)
-          (later (lambda-test false hl) (later (cost-test false hc) (later (length-right (omega arith)) h))))
+    pub past-early : {f : Fault Quant} → First call f late → First call f quantFaults
+    unfolding quantFaults
+    past-early h =
+        later (side-right (early .low) (early .high))
+        (later (qp-right (early .qp))
+        (later (lambda-test false (early .lambda))
+        (later (cost-test false (early .costs)) (later (length-right (omega (arith, early .long))) h))))
 
-      pub none-of-nine : None call (sampleFault ∷ levelFault ∷ priceFault ∷ distortionFault ∷ [])
-          → None call quantFaults
-      unfolding quantFaults
-      none-of-nine h =
-          but (side-right lo hi)
-          (but (qp-right hq)
-          (but (lambda-test false hl) (but (cost-test false hc) (but (length-right (omega arith)) h))))
+    pub none-at-all : None call late → None call quantFaults
+    unfolding quantFaults
+    none-at-all h =
+        but (side-right (early .low) (early .high))
+        (but (qp-right (early .qp))
+        (but (lambda-test false (early .lambda))
+        (but (cost-test false (early .costs)) (but (length-right (omega (arith, early .long))) h))))
 
-      -- ---- a skipped block becomes all 0, with count 0 and price 0
-      module _ (yes : isSkipped call ≡ true) (none : some (λ z. eqℤ z (negsuc 32767)) B ≡ false) where
-        no-fault : None call quantFaults
-        unfolding levelFault priceFault distortionFault
-        no-fault = none-of-nine (but (sample-here false none) (but (rw yes) (but (rw yes) (but (rw yes) end))))
+    -- ---- a skipped block becomes all 0, with count 0 and price 0
+    module _ (yes : isSkipped call ≡ true) (none : some (λ z. eqℤ z (negsuc 32767)) B ≡ false) where
+      no-fault : None call quantFaults
+      unfolding levelFault priceFault distortionFault
+      no-fault = none-at-all (but (sample-here false none) (but (rw yes) (but (rw yes) (but (rw yes) end))))
 
-        abbrev blank : ℕ → ℕ
-        blank L = 0
+      abbrev blank : ℕ → ℕ
+      blank L = 0
 
-        zeros : List ℕ
-        zeros = map blank (places call)
+      zeros : List ℕ
+      zeros = map blank (places call)
 
-        magnitudes-none : magnitudes call ≡ zeros
-        unfolding magnitudes zeros
-        magnitudes-none = rw yes
+      magnitudes-none : magnitudes call ≡ zeros
+      unfolding magnitudes zeros
+      magnitudes-none = rw yes
 
-        count-none : (ps : List ℕ) → nonzeros (map blank ps) ≡ 0
-        unfolding nonzeros
-        count-none [] = refl
-        count-none (p ∷ ps) = count-none ps
+      count-none : (ps : List ℕ) → nonzeros (map blank ps) ≡ 0
+      unfolding nonzeros
+      count-none [] = refl
+      count-none (p ∷ ps) = count-none ps
 
-        price-none : priceOf call ≡ 0
-        unfolding priceOf
-        price-none = rw yes
+      price-none : priceOf call ≡ 0
+      unfolding priceOf
+      price-none = rw yes
 
-        nothing-signed : (z : ℤ) → signed z 0 ≡ pos 0
-        unfolding signed
-        nothing-signed (pos n) = refl
-        nothing-signed (negsuc n) = refl
+      nothing-signed : (z : ℤ) → signed z 0 ≡ pos 0
+      unfolding signed
+      nothing-signed (pos n) = refl
+      nothing-signed (negsuc n) = refl
 
-        none-at : (ps : List ℕ) (n : ℕ) → getD (map blank ps) n 0 ≡ 0
-        none-at [] n = refl
-        none-at (p ∷ ps) zero = refl
-        none-at (p ∷ ps) (suc n) = none-at ps n
+      none-at : (ps : List ℕ) (n : ℕ) → getD (map blank ps) n 0 ≡ 0
+      none-at [] n = refl
+      none-at (p ∷ ps) zero = refl
+      none-at (p ∷ ps) (suc n) = none-at ps n
 
-        cleared : laid (scan side side) (signs (inOrder side B) zeros) B ≡ replicate (length B) (pos 0)
-        unfolding zeros places scanned blockPlaces scaleHere calledIn
-        cleared =
-            ext-getD (pos 0) (laid (scan side side) vs B) (replicate (length B) (pos 0))
-            (laid-length (scan side side) vs B ∙ sym (length-replicate (length B) (pos 0)))
-            (λ b h.
-            let inside : b < length B = omega (arith, laid-length (scan side side) vs B) in
-            let q = scan-hit side side some-side some-side full b (omega arith) in
-            subst (λ (n : ℕ). at (laid (scan side side) vs B) n ≡ pos 0) (q .2) (at-place (q .0) (q .1))
-            ∙ sym (getD-replicate (length B) b (pos 0) (pos 0) inside))
-          where
-            vs : List ℤ
-            vs = signs (inOrder side B) (map blank (places call))
+      cleared : laid (scan side side) (signs (inOrder side side B) zeros) B ≡ replicate (length B) (pos 0)
+      unfolding zeros places scanned blockPlaces scaleHere called
+      cleared =
+          ext-getD (pos 0) (laid (scan side side) vs B) (replicate (length B) (pos 0))
+          (laid-length (scan side side) vs B ∙ sym (length-replicate (length B) (pos 0)))
+          (λ b h.
+          let inside : b < length B = omega (arith, early .long, laid-length (scan side side) vs B) in
+          let q = scan-hit side side some-side some-side full b (omega (arith, early .long)) in
+          subst (λ (n : ℕ). at (laid (scan side side) vs B) n ≡ pos 0) (q .2) (at-place (q .0) (q .1))
+          ∙ sym (getD-replicate (length B) b (pos 0) (pos 0) inside))
+        where
+          vs : List ℤ
+          vs = signs (inOrder side side B) (map blank (places call))
 
-            coefficients : length (inOrder side B) ≡ side * side
-            coefficients = length-map (scan side side) (λ p. at B p) ∙ full
+          coefficients : length (inOrder side side B) ≡ side * side
+          coefficients = length-map (scan side side) (λ p. at B p) ∙ full
 
-            as-many : length (map blank (places call)) ≡ length (inOrder side B)
-            as-many =
-                length-map (places call) blank ∙ length-map (inOrder side B) (λ z. scaled (scaleOf forward (s .qp)) z)
+          as-many : length (map blank (places call)) ≡ length (inOrder side side B)
+          as-many =
+              length-map (places call) blank
+              ∙ length-map (inOrder side side B) (λ z. scaled (scaleOf forward (s .qp)) z)
 
-            at-place : (n : ℕ) → n < side * side → at (laid (scan side side) vs B) (scanAt side side n) ≡ pos 0
-            at-place n h =
-                laid-on-scan side side some-side some-side vs B n
-                (signs-length (inOrder side B) (map blank (places call)) as-many
-                ∙ length-map (scan side side) (λ p. at B p))
-                (omega arith) (omega (arith, full))
-                ∙ signs-at (inOrder side B) (map blank (places call)) n as-many (omega (arith, coefficients))
-                ∙ ap (signed (at (inOrder side B) n)) (none-at (places call) n)
-                ∙ nothing-signed (at (inOrder side B) n)
+          at-place : (n : ℕ) → n < side * side → at (laid (scan side side) vs B) (scanAt side side n) ≡ pos 0
+          at-place n h =
+              laid-on-scan side side some-side some-side vs B n
+              (signs-length (inOrder side side B) (map blank (places call)) as-many
+              ∙ length-map (scan side side) (λ p. at B p))
+              (omega (arith, early .long)) (omega (arith, early .long, full))
+              ∙ signs-at (inOrder side side B) (map blank (places call)) n as-many (omega (arith, coefficients))
+              ∙ ap (signed (at (inOrder side side B) n)) (none-at (places call) n)
+              ∙ nothing-signed (at (inOrder side side B) n)
 
-        pub skipped-answer : (quantAnswer call ≡ coded 0 0) × (quantBuffer call ≡ replicate (length B) (pos 0))
-        unfolding countOf quantised blockPlaces calledIn zeros
-        skipped-answer =
-            let a = accepted-answer call no-fault in
-            let n : countOf call ≡ 0 = ap nonzeros magnitudes-none ∙ count-none (places call) in (
-              a .0 ∙ ap (λ (x : ℕ). coded x (priceOf call)) n ∙ ap (coded 0) price-none,
-              a .1
-                  ∙ ap (λ (ms : List ℕ). laid (scan side side) (signs (scanned call) ms) B) magnitudes-none
-                  ∙ ap (λ (zs : List ℤ). laid (scan side side) (signs zs zeros) B) scanned-here
-                  ∙ cleared,
-            )
+      pub skipped-answer : (quantAnswer call ≡ coded 0 0) × (quantBuffer call ≡ replicate (length B) (pos 0))
+      unfolding countOf quantised blockPlaces called zeros
+      skipped-answer =
+          let a = accepted-answer call no-fault in
+          let n : countOf call ≡ 0 = ap nonzeros magnitudes-none ∙ count-none (places call) in (
+            a .0 ∙ ap (λ (x : ℕ). coded x (priceOf call)) n ∙ ap (coded 0) price-none,
+            a .1
+                ∙ ap (λ (ms : List ℕ). laid (scan side side) (signs (scanned call) ms) B) magnitudes-none
+                ∙ ap (λ (zs : List ℤ). laid (scan side side) (signs zs zeros) B) scanned-here
+                ∙ cleared,
+          )
 
     -- ---- the numbers by a scale
-    module _ (g : Scale) (w : ScaleOf l (s .qp) g) where
+    module _ (g : Scale) (w : ScaleOf forward l (s .qp) g) where
       pub shift-here : shiftHere call ≡ g .shift
-      unfolding shiftHere sideOf calledIn
+      unfolding shiftHere log2Of called
       shift-here = ap (λ (n : ℕ). shiftOf n (s .qp)) half-sum ∙ sym (w .shift)
 
-      pub places-here : places call ≡ placesBy g side B
-      unfolding places scanned blockPlaces scaleHere calledIn
-      places-here = ap (λ (q : ℕ). map (λ z. scaled q z) (inOrder side B)) (sym (w .q))
+      pub places-here : places call ≡ placesBy g side side B
+      unfolding places scanned blockPlaces scaleHere called
+      places-here = ap (λ (q : ℕ). map (λ z. scaled q z) (inOrder side side B)) (sym (w .q))
 
       -- M
-      pub largest-here : (top : ℕ) → top ≡ over onMax natAbs B → largestHere call ≡ magnitude (g .shift) (top * g .q)
+      pub largest-here : (top : ℕ) → top ≡ over onMax natAbs B → largestHere call ≡ nearest (g .shift) (top * g .q)
       unfolding largestHere
       largest-here top e =
-          let m = magnitude (g .shift) in
-          ap (λ (n : ℕ). largest (magnitude n) (places call)) shift-here
+          let m = nearest (g .shift) in
+          ap (λ (n : ℕ). largest (nearest n) (places call)) shift-here
           ∙ ap (largest m) places-here
-          ∙ largest-over m (placesBy g side B)
-          ∙ over-map onMax m (λ z. scaled (g .q) z) (inOrder side B)
+          ∙ largest-over m (placesBy g side side B)
+          ∙ over-map onMax m (λ z. scaled (g .q) z) (inOrder side side B)
           ∙ in-block maxima (λ z. m (scaled (g .q) z))
           ∙ largest-is (g .shift) (g .q) (omega (arith, w .sound .low)) B
           ∙ ap (λ (n : ℕ). m (n * g .q)) (sym e)
 
       -- the rule
-      pub rule-here : (p : Prices) → p ≡ pricesOf 32768 (lambdaHere call) t (rowsOf k j) → ruleOf call ≡ ruleBy p g
-      unfolding ruleOf ruleBy sideOf scaleHere calledIn made pricesOf
+      pub rule-here : (p : Prices) → p ≡ pricesOf 32768 (lambdaHere call) t rows → ruleOf call ≡ ruleBy p g
+      unfolding ruleOf ruleBy rowsHere log2Of scaleHere called made pricesOf
       rule-here p e =
           let lambda = lambdaHere call in
-          let v = pricesOf 32768 lambda t (rowsOf k j) in
-          let rate-of : Bool → ℕ → ℕ = λ z a. lambda * rate 32768 t (rowsOf k j) z a in
+          let v = pricesOf 32768 lambda t rows in
+          let rate-of : Bool → ℕ → ℕ = λ z a. lambda * rate 32768 t rows z a in
           let error-here : errorScale ((l + l) / 2) (scaleOf forward (s .qp)) ≡ g .error =
           ap (λ (n : ℕ). errorScale n (scaleOf forward (s .qp))) half-sum ∙ ap (errorScale l) (sym (w .q))
           ∙ sym (w .error) in
           ap (λ (n : ℕ). made n (errorScale ((l + l) / 2) (scaleOf forward (s .qp))) rate-of v) shift-here
           ∙ ap (λ (n : ℕ). made (g .shift) n rate-of v) error-here
           ∙ ap (λ (f : Bool → ℕ → ℕ). made (g .shift) (g .error) f v)
-          (fun-ext (λ z. fun-ext (λ a. sym (rate-weighed 32768 lambda t (rowsOf k j) z a))))
+          (fun-ext (λ z. fun-ext (λ a. sym (rate-weighed 32768 lambda t rows z a))))
           ∙ ap (λ (x : Prices). ruleBy x g) (sym e)
 
       -- D
-      uncoded-by : (p : Prices) → uncoded (ruleBy p g) (placesBy g side B) ≡ over onℕ (zeroDistortion g) B
+      uncoded-by : (p : Prices) → uncoded (ruleBy p g) (placesBy g side side B) ≡ over onℕ (zeroDistortion g) B
       unfolding ruleBy
       uncoded-by p =
-          uncoded-over (ruleBy p g) (placesBy g side B)
-          ∙ over-map onℕ (λ L. (ruleBy p g) .dist L 0) (λ z. scaled (g .q) z) (inOrder side B)
+          uncoded-over (ruleBy p g) (placesBy g side side B)
+          ∙ over-map onℕ (λ L. (ruleBy p g) .dist L 0) (λ z. scaled (g .q) z) (inOrder side side B)
           ∙ in-block nats (λ z. (ruleBy p g) .dist (scaled (g .q) z) 0)
 
-      pub uncoded-is : (p : Prices) → p ≡ pricesOf 32768 (lambdaHere call) t (rowsOf k j)
-          → uncodedHere call ≡ uncoded (ruleBy p g) (placesBy g side B)
+      pub uncoded-is : (p : Prices) → p ≡ pricesOf 32768 (lambdaHere call) t rows
+          → uncodedHere call ≡ uncoded (ruleBy p g) (placesBy g side side B)
       unfolding uncodedHere
       uncoded-is p e =
           ap (λ (r : Rule). uncoded r (places call)) (rule-here p e) ∙ ap (uncoded (ruleBy p g)) places-here
 
       pub uncoded-here : uncodedHere call ≡ over onℕ (zeroDistortion g) B
-      uncoded-here = let p = pricesOf 32768 (lambdaHere call) t (rowsOf k j) in uncoded-is p refl ∙ uncoded-by p
+      uncoded-here = let p = pricesOf 32768 (lambdaHere call) t rows in uncoded-is p refl ∙ uncoded-by p
 
       -- ---- a block without a fault
-      module _ (hq : s .qp ≤ 63) (hl : lambdaRefused (s .lambda) ≡ false) (hc : costRefused t ≡ false)
-          (no : isSkipped call ≡ false) (no-fault : None call (sampleFault ∷ levelFault ∷ priceFault ∷ distortionFault
-          ∷ []))
-          (p : Prices) (e : p ≡ pricesOf 32768 (lambdaHere call) t (rowsOf k j)) where
-        mode-here : call .mode ≡ v
-        unfolding calledIn
+      module _ (no : isSkipped call ≡ false) (no-fault : None call late)
+          (p : Prices) (e : p ≡ pricesOf 32768 (lambdaHere call) t rows) where
+        mode-here : call .mode ≡ a .mode
+        unfolding called
         mode-here = refl
 
-        written-here : magnitudes call ≡ writtenIn v (ruleBy p g) (placesBy g side B)
+        written-here : magnitudes call ≡ writtenIn (a .mode) (ruleBy p g) (placesBy g side side B)
         unfolding magnitudes
         written-here = rw no (rw (mode-here, rule-here p e, places-here))
 
@@ -352,22 +373,22 @@ module _ (v : Mode) (B : List ℤ) (l : ℕ) (k : Component) (s : Settings) (i j
         unfolding priceOf
         price-walked = rw no
 
-        pub coded-answer : (after : List ℤ) (r : Coded) → CodedAs v p g side B after r
+        pub coded-answer : (after : List ℤ) (r : Coded) → CodedAs (a .mode) p g side side B after r
             → (quantAnswer call ≡ coded (r .count) (r .price)) × (quantBuffer call ≡ after)
-        unfolding countOf quantised blockPlaces calledIn
+        unfolding countOf quantised blockPlaces called
         coded-answer after r c =
-            let a = accepted-answer call (none-of-nine hq hl hc no-fault) in
+            let ok = accepted-answer call (none-at-all no-fault) in
             let n : countOf call ≡ r .count = ap nonzeros written-here ∙ sym (c .count) in
             let x : priceOf call ≡ r .price =
             price-walked
             ∙ ap (λ (R : Rule). price R (magnitudes call) (places call)) (rule-here p e)
             ∙ ap (λ (ms : List ℕ). price (ruleBy p g) ms (places call)) written-here
-            ∙ ap (price (ruleBy p g) (writtenIn v (ruleBy p g) (placesBy g side B))) places-here
+            ∙ ap (price (ruleBy p g) (writtenIn (a .mode) (ruleBy p g) (placesBy g side side B))) places-here
             ∙ sym (c .price) in (
-              a .0 ∙ ap (λ (y : ℕ). coded y (priceOf call)) n ∙ ap (coded (r .count)) x,
-              a .1
+              ok .0 ∙ ap (λ (y : ℕ). coded y (priceOf call)) n ∙ ap (coded (r .count)) x,
+              ok .1
                   ∙ ap (λ (ms : List ℕ). laid (scan side side) (signs (scanned call) ms) B) written-here
-                  ∙ ap (λ (zs : List ℤ). laid (scan side side) (signs zs (writtenIn v (ruleBy p g) (placesBy g side B)))
-                  B) scanned-here
+                  ∙ ap (λ (zs : List ℤ). laid (scan side side) (signs zs (writtenIn (a .mode) (ruleBy p g)
+                  (placesBy g side side B))) B) scanned-here
                   ∙ sym (c .buffer),
             )

@@ -1,3 +1,1 @@
-pub mod Block
-pub mod Call
-pub mod Code
+pub mod Inner

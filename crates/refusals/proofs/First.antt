@@ -1,5 +1,6 @@
 -- The law of the refusals: the verdict is the first fault that holds, and a call without a fault is accepted. Both ways
--- round, so that a verdict and a list of faults say the same. And two calls with the same faults have one verdict.
+-- round, so that a verdict and a list of faults say the same. Two calls with the same faults have one verdict. And what
+-- an answer says of the verdict that it came with.
 -- Assumes nothing.
 use mathlib.Core.Path.{_≡_, refl}
 use mathlib.Core.Bool.{Bool, true, false, cond, _&&_}
@@ -10,7 +11,8 @@ use lib.Dec.{leb}
 use borrow.Author.Tests.{leb-true, not-false}
 use Rattle.integers.proofs.Tests.{both}
 use Rattle.refusals.specs.Numbers.{numberOf, componentOf}
-use Rattle.refusals.specs.Faults.{Fault, Verdict, accepted, refused, verdict, outside}
+use Rattle.refusals.specs.Faults.{Fault, Outcome, accepted, refused, passed, verdict, answering}
+use Rattle.refusals.specs.Faults.{outside}
 
 -- f stands in the list behind faults of which none holds
 pub data First {I : Type 0} (i : I) (f : Fault I) : List (Fault I) → Type 0 where
@@ -29,20 +31,20 @@ module _ {I : Type 0} (i : I) where
   refused-with-the-first (g ∷ fs) (here h) = rw h
   refused-with-the-first (g ∷ fs) (later h r) = rw h (refused-with-the-first fs r)
 
-  pub accepted-without-a-fault : (fs : List (Fault I)) → None i fs → verdict fs i ≡ accepted
+  pub accepted-without-a-fault : (fs : List (Fault I)) → None i fs → verdict fs i ≡ passed
   unfolding verdict
   accepted-without-a-fault [] end = refl
   accepted-without-a-fault (f ∷ fs) (but h r) = rw h (accepted-without-a-fault fs r)
 
   -- ---- and back
-  pub no-fault-if-accepted : (fs : List (Fault I)) → verdict fs i ≡ accepted → None i fs
+  pub no-fault-if-accepted : (fs : List (Fault I)) → verdict fs i ≡ passed → None i fs
   unfolding verdict
   no-fault-if-accepted [] e = end
   no-fault-if-accepted (f ∷ fs) e = split (f .holds i) refl e (no-fault-if-accepted fs)
     where
       split : (t : Bool) → f .holds i ≡ t
-          → cond t (refused (numberOf (f .refusal)) (componentOf (f .component i))) (verdict fs i) ≡ accepted
-          → (verdict fs i ≡ accepted → None i fs) → None i (f ∷ fs)
+          → cond t (refused (numberOf (f .refusal)) (componentOf (f .component i))) (verdict fs i) ≡ passed
+          → (verdict fs i ≡ passed → None i fs) → None i (f ∷ fs)
       split true h q rest = absurd (let z : _≡_ {A = ℕ} 0 1 = cc in let no : ⊥ = omega arith in no)
       split false h q rest = but h (rest q)
 
@@ -87,13 +89,13 @@ inside lo hi n e =
 
 -- ---- two lists one after the other
 -- the first verdict if it is a refusal, else the second
-abbrev pub orElse : Verdict → Verdict → Verdict
-orElse accepted v = v
+abbrev pub orElse : Outcome Unit → Outcome Unit → Outcome Unit
+orElse (accepted u) v = v
 orElse (refused n c) v = refused n c
 
 -- accepted only if both are
-pub both-accepted : (x y : Verdict) → orElse x y ≡ accepted → (x ≡ accepted) × (y ≡ accepted)
-both-accepted accepted y e = (refl, e)
+pub both-accepted : (x y : Outcome Unit) → orElse x y ≡ passed → (x ≡ passed) × (y ≡ passed)
+both-accepted (accepted u) y e = (refl, e)
 both-accepted (refused n c) y e = absurd (let z : _≡_ {A = ℕ} 0 1 = cc in let no : ⊥ = omega arith in no)
 
 module _ {I : Type 0} (i : I) where
@@ -119,3 +121,16 @@ pub same-verdict : {I : Type 0} (i j : I) (fs : List (Fault I)) → Alike i j fs
 unfolding verdict
 same-verdict i j [] all = refl
 same-verdict i j (f ∷ fs) (next h c a) = rw (h, c, same-verdict i j fs a)
+
+-- ---- a verdict with its answer
+module _ {A : Type 0} (a : A) where
+  pub refusing-verdict : (v : Outcome Unit) (n c : ℕ) → answering v a ≡ refused n c → v ≡ refused n c
+  refusing-verdict (accepted u) n c e = absurd (let z : _≡_ {A = ℕ} 0 1 = cc in let no : ⊥ = omega arith in no)
+  refusing-verdict (refused m d) n c e = cc
+
+  pub refusing-answer : (v : Outcome Unit) (n c : ℕ) → v ≡ refused n c → answering v a ≡ refused n c
+  refusing-answer v n c e = rw e
+
+  pub answer-given : (v : Outcome Unit) (b : A) → answering v a ≡ accepted b → a ≡ b
+  answer-given (accepted u) b e = cc
+  answer-given (refused n c) b e = absurd (let z : _≡_ {A = ℕ} 0 1 = cc in let no : ⊥ = omega arith in no)

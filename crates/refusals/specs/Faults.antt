@@ -19,19 +19,28 @@ pub record Fault (I : Type 0) : Type 0 where
 abbrev pub ofNone : {I : Type 0} → I → Component
 ofNone i = Y
 
--- accepted, or the paper's numbers of a refusal and a component
-pub data Verdict : Type 0 where
-  accepted : Verdict
-  refused : (number component : ℕ) → Verdict
+-- what comes of a call: what it answers where it is accepted, or the paper's numbers of a refusal and a component
+pub data Outcome (A : Type 0) : Type 0 where
+  accepted : A → Outcome A
+  refused : (number component : ℕ) → Outcome A
 
-unfoldable pub verdict : {I : Type 0} → List (Fault I) → I → Verdict
-verdict [] i = accepted
+-- of a call that is asked for nothing but its faults
+abbrev pub passed : Outcome Unit
+passed = accepted tt
+
+unfoldable pub verdict : {I : Type 0} → List (Fault I) → I → Outcome Unit
+verdict [] i = passed
 verdict (f ∷ fs) i =
     let rest = verdict fs i in cond (f .holds i) (refused (numberOf (f .refusal)) (componentOf (f .component i))) rest
 
+-- with that verdict the answer a
+abbrev pub answering : {A : Type 0} → Outcome Unit → A → Outcome A
+answering (accepted u) a = accepted a
+answering (refused n c) a = refused n c
+
 -- a where the call is accepted, else b
-abbrev pub ifAccepted : {A : Type 0} → Verdict → A → A → A
-ifAccepted accepted a b = a
+abbrev pub ifAccepted : {A : Type 0} → Outcome Unit → A → A → A
+ifAccepted (accepted u) a b = a
 ifAccepted (refused n c) a b = b
 
 -- n is outside lo..hi

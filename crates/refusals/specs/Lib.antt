@@ -1,2 +1,3 @@
+pub mod Sides
 pub mod Numbers
 pub mod Faults

@@ -1,8 +1,9 @@
-// The nine refusals and the three components, by name: no tenth refusal and no fourth component can be named. specs/
-// has the paper's number for each, and how a call's refusal comes from the list of its faults: it is the first that
-// holds.
+// The refusals and the three components, by name: no other refusal and no fourth component can be named. specs/ has the
+// paper's number for each, what comes of a call, and how its refusal comes from the list of its faults: it is the first
+// that holds.
 ghost use mathlib.Core.Path.{_≡_};
 ghost use Rattle.refusals.specs.Numbers.{numberOf, componentOf};
+ghost use Rattle.refusals.specs.Sides.{mostLog2};
 ghost use Rattle.refusals.specs.Faults.{outside};
 
 pub enum Refusal {
@@ -52,7 +53,7 @@ pub fn component_number(component: Component) -> u32
 
 // 1 SIDE, of one log2 side.
 pub fn no_side(log2: usize) -> bool
-    ensures { λ r. ⌜ r ≡ outside 1 5 log2 ⌝ }
+    ensures { λ r. ⌜ r ≡ outside 1 mostLog2 log2 ⌝ }
 {
     if log2 < 1 {
         return true;

@@ -7,22 +7,23 @@ use Prim.Native.Nat.{ℕ, zero, suc, _+_, _-_, _≤_, _<_, _^_}
 use native.Mathlib.Omega.{arith}
 use lib.Dec.{ltb, eqb}
 use borrow.Author.Tests.{ne-eqb}
-use Rattle.price.specs.Level.{magnitude, distortion}
+use Rattle.price.specs.Level.{nearest, distortion}
 use Rattle.price.specs.Rule.{Rule, cost}
 use Rattle.price.specs.Price.{uncoded}
 use Rattle.price.specs.Walk.{cheaper}
-use Rattle.price.specs.Search.{some, plus, under, lesser, ending, goingOn, goesOn, behind, offer, withZero, withLevel}
-use Rattle.price.specs.Search.{takenBy, leastBy, taken, ahead}
-use Rattle.price.specs.Search as of-price
-use Rattle.rule.specs.declared.scale.Scale.{Scale}
-use Rattle.rule.specs.declared.prices.Prices.{Prices}
-use Rattle.rule.specs.Prices.{zeroPrice, headPrice, rateBy, ruleBy}
-use Rattle.rule.specs.Offers.{bare, offered}
-use Rattle.rule.proofs.Offering.{same-offer, cost-by}
+use Rattle.price.specs.Inner.Search.{some, plus, under, lesser, ending, goingOn, goesOn, behind, offer, withZero}
+use Rattle.price.specs.Inner.Search.{withLevel}
+use Rattle.price.specs.Inner.Search.{takenBy, leastBy, taken, ahead}
+use Rattle.price.specs.Inner.Search as of-price
+use Rattle.weights.specs.declared.scale.Scale.{Scale}
+use Rattle.weights.specs.declared.prices.Prices.{Prices}
+use Rattle.weights.specs.Inner.Prices.{zeroPrice, headPrice, rateBy, ruleBy}
+use Rattle.weights.specs.Inner.Offers.{bare, offered}
+use Rattle.weights.proofs.Offering.{same-offer, cost-by}
 use Rattle.search.specs.declared.place.Ahead.{Ahead}
 use Rattle.search.specs.declared.place.Choice.{Choice}
 use Rattle.search.specs.declared.place.Weighed.{Weighed}
-use Rattle.search.specs.Searching.{ChosenOf, Ready, behindBy, zeroBy, levelBy, WeighedBy, Holds, Held}
+use Rattle.search.specs.Inner.Searching.{ChosenOf, Ready, behindBy, zeroBy, levelBy, WeighedBy, Holds, Held}
 use Rattle.search.proofs.Holding.{As, as-held, as-plus, under-some, some-under, lesser-some, some-lesser, lower}
 
 -- the cheaper of the nonzero magnitudes does not depend on the level before
@@ -103,9 +104,9 @@ module _ (p : Prices) (g : Scale) (n : ℕ) (ps : List ℕ) (h : Ahead) (k : Hel
   unfolding behind
   behind-is = rw ending-is (lesser-some (h .level + p .more) (h .rest + p .last) ends-below (goingOn r ps t) going-on)
 
-  offer-is : (z : Bool) → offer r z L (magnitude (g .shift) L) ≡ a
+  offer-is : (z : Bool) → offer r z L (nearest (g .shift) L) ≡ a
   unfolding offered
-  offer-is z = offer-by p g z L (magnitude (g .shift) L) (e .some)
+  offer-is z = offer-by p g z L (nearest (g .shift) L) (e .some)
 
   with-level : (z : Bool) → withLevel r z L ps t a ≡ some (y z)
   unfolding withLevel plus
@@ -121,17 +122,17 @@ module _ (p : Prices) (g : Scale) (n : ℕ) (ps : List ℕ) (h : Ahead) (k : Hel
       omega (arith, e .rest, e .modest .last, q .offer .1, head-small z)
 
   module _ (z : Bool) (c : Choice) (i : ChosenOf (x z) (y z) a c) where
-    least-is : Holds (suc n) (leastBy r z L ps t (magnitude (g .shift) L)) (c .price)
+    least-is : Holds (suc n) (leastBy r z L ps t (nearest (g .shift) L)) (c .price)
     least-is =
-        let l : leastBy r z L ps t (magnitude (g .shift) L) ≡ some (cond (ltb (y z) (x z)) (y z) (x z)) =
-        least-some r z L ps t (magnitude (g .shift) L) (e .some)
+        let l : leastBy r z L ps t (nearest (g .shift) L) ≡ some (cond (ltb (y z) (x z)) (y z) (x z)) =
+        least-some r z L ps t (nearest (g .shift) L) (e .some)
         ∙ rw (offer-is z, with-level z) (some-lesser (x z) (y z) (omega (arith, small z)) (withZero r z L ps t)
         (with-zero z)) in
         rw l (i .price, omega (arith, small z, lower (ltb (y z) (x z)) (y z) (x z) refl .0))
 
-    taken-is : takenBy r z L ps t (magnitude (g .shift) L) ≡ c .level
+    taken-is : takenBy r z L ps t (nearest (g .shift) L) ≡ c .level
     taken-is =
-        taken-some r z L ps t (magnitude (g .shift) L) (e .some)
+        taken-some r z L ps t (nearest (g .shift) L) (e .some)
         ∙ rw (
           offer-is z,
           with-level z,

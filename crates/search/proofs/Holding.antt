@@ -11,17 +11,17 @@ use lib.ListN.{length, getD}
 use borrow.Author.Tests.{ltb-true, ltb-false, lt-ltb, le-ltb}
 use Rattle.price.specs.Rule.{cost}
 use Rattle.price.specs.Price.{uncoded}
-use Rattle.price.specs.Search.{Least, none, some, plus, under, lesser, withZero, takenBy, leastBy, taken, ahead}
-use Rattle.price.specs.Search as of-price
+use Rattle.price.specs.Inner.Search.{Least, none, some, plus, under, lesser, withZero, takenBy, leastBy, taken, ahead}
+use Rattle.price.specs.Inner.Search as of-price
 use Rattle.price.proofs.Search.{quiet-ahead}
-use Rattle.rule.specs.declared.scale.Scale.{Scale}
-use Rattle.rule.specs.declared.prices.Prices.{Prices}
-use Rattle.rule.specs.Scale.{Sound}
-use Rattle.rule.specs.Prices.{Modest, zeroPrice, rateBy, ruleBy}
-use Rattle.rule.proofs.Scaling.{magnitude-of-0}
-use Rattle.rule.proofs.Places.{nothing-uncoded}
+use Rattle.weights.specs.declared.scale.Scale.{Scale}
+use Rattle.weights.specs.declared.prices.Prices.{Prices}
+use Rattle.weights.specs.Inner.Scale.{Sound}
+use Rattle.weights.specs.Inner.Prices.{Modest, zeroPrice, rateBy, ruleBy}
+use Rattle.weights.proofs.Scaling.{nearest-of-0}
+use Rattle.weights.proofs.Places.{nothing-uncoded}
 use Rattle.search.specs.declared.place.Ahead.{Ahead}
-use Rattle.search.specs.Searching.{passedBy, Holds, Held}
+use Rattle.search.specs.Inner.Searching.{passedBy, Holds, Held}
 
 -- ---- the least price x, held as v
 abbrev pub As : Least → ℕ → Type 0
@@ -86,7 +86,7 @@ lower false a b e = let h = ltb-false a b e in (omega arith, omega arith)
 module _ (p : Prices) (g : Scale) (s : Sound g) where
   nothing-top : (ruleBy p g) .top 0 ≡ 0
   unfolding ruleBy
-  nothing-top = magnitude-of-0 (g .shift) (omega (arith, s .low))
+  nothing-top = nearest-of-0 (g .shift) (omega (arith, s .low))
 
   module _ (z : Bool) (ps : List ℕ) (t : of-price.Ahead) where
     zero-cost : cost (ruleBy p g) z 0 0 ≡ zeroPrice p z

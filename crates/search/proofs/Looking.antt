@@ -12,26 +12,28 @@ use lib.Seq.{getD-set-same, getD-set-other, getD-drop, drop-cons}
 use Rattle.tables.specs.Scan.{scanAt}
 use Rattle.price.specs.Rule.{Rule}
 use Rattle.price.specs.Price.{uncoded}
-use Rattle.price.specs.Search.{ahead, taken, goesOn}
-use Rattle.rule.specs.declared.scale.Scale.{Scale}
-use Rattle.rule.specs.declared.prices.Prices.{Prices}
-use Rattle.rule.specs.Prices.{ruleBy}
-use Rattle.rule.specs.Places.{keptAt, keptPlaces, Scanned}
-use Rattle.rule.proofs.Places.{places-count, place-at}
+use Rattle.price.specs.Inner.Search.{ahead, taken, goesOn}
+use Rattle.weights.specs.declared.scale.Scale.{Scale}
+use Rattle.weights.specs.declared.prices.Prices.{Prices}
+use Rattle.weights.specs.Inner.Prices.{ruleBy}
+use Rattle.weights.specs.Inner.Places.{keptAt, keptPlaces, Scanned}
+use Rattle.weights.proofs.Places.{places-count, place-at}
 use Rattle.search.specs.declared.place.Ahead.{Ahead}
 use Rattle.search.specs.declared.place.Weighed.{Weighed}
-use Rattle.search.specs.Searching.{Passable, passedBy, Ready, WeighedBy, Held, from, Known, Ends, Sought, Decided}
+use Rattle.search.specs.Inner.Searching.{Passable, passedBy, Ready, WeighedBy, Held, from, Known, Ends, Sought}
+use Rattle.search.specs.Inner.Searching.{Decided}
 use Rattle.search.proofs.Holding.{held-small, passed-taken, passed-held, none-held}
 use Rattle.search.proofs.Choosing.{weighed-zero, weighed-level, weighed-on, weighed-held}
 
-pub record Looking (p : Prices) (g : Scale) (side : ℕ) (kept : List ℕ) (end : ℕ) (afterZero afterLevel ons : List ℕ)
+pub record Looking (p : Prices) (g : Scale) (width height : ℕ) (kept : List ℕ) (end : ℕ)
+    (afterZero afterLevel ons : List ℕ)
     (t : Ahead) (n : ℕ) : Type 0 where
   pub place : n ≤ end
-  pub known : Known p g side kept n t
-  pub decided : Decided p g side kept n end afterZero afterLevel ons
-  pub zero-room : length afterZero ≡ side * side
-  pub level-room : length afterLevel ≡ side * side
-  pub on-room : length ons ≡ side * side
+  pub known : Known p g width height kept n t
+  pub decided : Decided p g width height kept n end afterZero afterLevel ons
+  pub zero-room : length afterZero ≡ width * height
+  pub level-room : length afterLevel ≡ width * height
+  pub on-room : length ons ≡ width * height
 
 less-left : (r : Rule) (ps : List ℕ) (i : ℕ) → uncoded r (drop i ps) ≤ uncoded r ps
 unfolding uncoded
@@ -50,21 +52,23 @@ put n P l v h here behind =
     here-or-behind n (λ (k : ℕ). P k (getD (set l n v) k 0)) (subst (P n) (sym (getD-set-same l n v 0 h)) here)
     (λ k m. subst (P k) (sym (getD-set-other l n k v 0 (λ e. let z : ⊥ = omega arith in z))) (behind k m))
 
-module _ (p : Prices) (g : Scale) (side : ℕ) (kept held : List ℕ) (sc : Scanned side held) (s : Sought p g side kept)
+module _ (p : Prices) (g : Scale) (width height : ℕ) (kept held : List ℕ) (sc : Scanned width height held)
+    (s : Sought p g width height kept)
     (end : ℕ)
-    (ends : Ends side kept end) where
+    (ends : Ends width height kept end) where
   abbrev r : Rule
   r = ruleBy p g
 
   abbrev ps : List ℕ
-  ps = keptPlaces g side kept
+  ps = keptPlaces g width height kept
 
-  pub begun : (zs ls ons : List ℕ) → length zs ≡ side * side → length ls ≡ side * side → length ons ≡ side * side
-      → Looking p g side kept end zs ls ons (record { zero = 2 ^ 63; level = 2 ^ 63; rest = 0 }) end
+  pub begun : (zs ls ons : List ℕ) → length zs ≡ width * height → length ls ≡ width * height
+      → length ons ≡ width * height
+      → Looking p g width height kept end zs ls ons (record { zero = 2 ^ 63; level = 2 ^ 63; rest = 0 }) end
   begun zs ls ons a b c =
       record {
         place = omega arith;
-        known = none-held p g (s .weighable .sound) (side * side - end) (from g side kept end) none-there;
+        known = none-held p g (s .weighable .sound) (width * height - end) (from g width height kept end) none-there;
         decided = record {
           zero = λ k l m. absurd (omega arith);
           level = λ k l m. absurd (omega arith);
@@ -76,45 +80,48 @@ module _ (p : Prices) (g : Scale) (side : ℕ) (kept held : List ℕ) (sc : Scan
         on-room = c;
       }
     where
-      none-there : (k : ℕ) → k < length (from g side kept end) → getD (from g side kept end) k 0 ≡ 0
+      none-there : (k : ℕ) → k < length (from g width height kept end) → getD (from g width height kept end) k 0 ≡ 0
       none-there k h =
-          let lt : end + k < side * side = omega (arith, length-drop end ps, places-count side held sc g kept) in
+          let lt : end + k < width * height =
+          omega (arith, length-drop end ps, places-count width height held sc g kept) in
           getD-drop end ps k 0
-          ∙ place-at side held sc g kept (end + k) lt
+          ∙ place-at width height held sc g kept (end + k) lt
           ∙ ap (λ (a : ℕ). a * g .q) (ends .tail (end + k) (omega arith) lt)
           ∙ zero-mul (g .q)
 
-  module _ (zs ls ons : List ℕ) (t : Ahead) (n : ℕ) (i : Looking p g side kept end zs ls ons t (suc n)) where
-    pub inside-n : n < side * side
+  module _ (zs ls ons : List ℕ) (t : Ahead) (n : ℕ) (i : Looking p g width height kept end zs ls ons t (suc n)) where
+    pub inside-n : n < width * height
     inside-n = omega (arith, i .place, ends .within)
 
-    here : getD ps n 0 ≡ keptAt side kept n * g .q
-    here = place-at side held sc g kept n inside-n
+    here : getD ps n 0 ≡ keptAt width height kept n * g .q
+    here = place-at width height held sc g kept n inside-n
 
-    all : from g side kept n ≡ getD ps n 0 ∷ from g side kept (suc n)
-    all = drop-cons ps n 0 (omega (arith, places-count side held sc g kept, inside-n))
+    all : from g width height kept n ≡ getD ps n 0 ∷ from g width height kept (suc n)
+    all = drop-cons ps n 0 (omega (arith, places-count width height held sc g kept, inside-n))
 
-    one-more : suc (side * side - suc n) ≡ side * side - n
+    one-more : suc (width * height - suc n) ≡ width * height - n
     one-more = omega (arith, inside-n)
 
     known-by : (L : ℕ) (v : Ahead) → getD ps n 0 ≡ L
-        → Held p g (suc (side * side - suc n)) (L ∷ from g side kept (suc n)) v → Known p g side kept n v
+        → Held p g (suc (width * height - suc n)) (L ∷ from g width height kept (suc n)) v
+        → Known p g width height kept n v
     known-by L v e k = rw (all, ← one-more, e) k
 
     small : (t .zero ≤ 2 ^ 63 + 2 ^ 61) × (t .level ≤ 2 ^ 63 + 2 ^ 61)
-    small = held-small p g (side * side - suc n) (from g side kept (suc n)) t (omega (arith, sc .few)) (i .known)
+    small = held-small p g (width * height - suc n) (from g width height kept (suc n)) t (omega (arith, sc .few))
+        (i .known)
 
     pub passable : Passable p t
     passable = record { modest = s .weighable .modest; zero = small .0 }
 
-    pub ready : 1 ≤ keptAt side kept n → Ready p g t (keptAt side kept n * g .q)
+    pub ready : 1 ≤ keptAt width height kept n → Ready p g t (keptAt width height kept n * g .q)
     ready o =
         let w = s .weighable in
         record {
           modest = w .modest;
           sound = w .sound;
-          fine = w .fine (scanAt side side n);
-          some = w .some (scanAt side side n) o;
+          fine = w .fine (scanAt width height n);
+          some = w .some (scanAt width height n) o;
           zero = small .0;
           level = small .1;
           rest = omega (arith, i .known .rest, less-left r ps (suc n), s .small);
@@ -122,24 +129,26 @@ module _ (p : Prices) (g : Scale) (side : ℕ) (kept held : List ℕ) (sc : Scan
 
     -- what is taken at place k, and whether a nonzero level there goes on
     abbrev Takes : Bool → ℕ → ℕ → Type 0
-    Takes z k a = k < end → a ≡ taken r z (getD ps k 0) (from g side kept (suc k)) (ahead r (from g side kept (suc k)))
+    Takes z k a = k < end → a ≡ taken r z (getD ps k 0) (from g width height kept (suc k))
+        (ahead r (from g width height kept (suc k)))
 
     abbrev GoesOn : ℕ → ℕ → Type 0
-    GoesOn k a = k < end → 1 ≤ keptAt side kept k
-        → a ≡ cond (goesOn r (from g side kept (suc k)) (ahead r (from g side kept (suc k)))) 1 0
+    GoesOn k a = k < end → 1 ≤ keptAt width height kept k
+        → a ≡ cond (goesOn r (from g width height kept (suc k)) (ahead r (from g width height kept (suc k)))) 1 0
 
     takes : (z : Bool) (L a : ℕ) → getD ps n 0 ≡ L
-        → taken r z L (from g side kept (suc n)) (ahead r (from g side kept (suc n))) ≡ a → Takes z n a
+        → taken r z L (from g width height kept (suc n)) (ahead r (from g width height kept (suc n))) ≡ a → Takes z n a
     takes z L a e q l = rw e (sym q)
 
-    pub passes : keptAt side kept n ≡ 0 → Looking p g side kept end (set zs n 0) (set ls n 0) ons (passedBy p t) n
+    pub passes : keptAt width height kept n ≡ 0 → Looking p g width height kept end (set zs n 0) (set ls n 0) ons
+        (passedBy p t) n
     passes e =
         let L : getD ps n 0 ≡ 0 = here ∙ ap (λ (a : ℕ). a * g .q) e ∙ zero-mul (g .q) in
         let w = s .weighable in
-        let later = from g side kept (suc n) in
+        let later = from g width height kept (suc n) in
         record {
           place = omega (arith, i .place);
-          known = known-by 0 (passedBy p t) L (passed-held p g (w .sound) (w .modest) (side * side - suc n) later t
+          known = known-by 0 (passedBy p t) L (passed-held p g (w .sound) (w .modest) (width * height - suc n) later t
               (i .known));
           decided =
               record {
@@ -157,12 +166,12 @@ module _ (p : Prices) (g : Scale) (side : ℕ) (kept held : List ℕ) (sc : Scan
           on-room = i .on-room;
         }
 
-    pub weighs : 1 ≤ keptAt side kept n → (w : Weighed) → WeighedBy p g t (keptAt side kept n * g .q) w
-        → Looking p g side kept end (set zs n (w .zero)) (set ls n (w .level)) (set ons n (w .on)) (w .ahead) n
+    pub weighs : 1 ≤ keptAt width height kept n → (w : Weighed) → WeighedBy p g t (keptAt width height kept n * g .q) w
+        → Looking p g width height kept end (set zs n (w .zero)) (set ls n (w .level)) (set ons n (w .on)) (w .ahead) n
     weighs o w q =
-        let L = keptAt side kept n * g .q in
-        let later = from g side kept (suc n) in
-        let left = side * side - suc n in
+        let L = keptAt width height kept n * g .q in
+        let later = from g width height kept (suc n) in
+        let left = width * height - suc n in
         record {
           place = omega (arith, i .place);
           known = known-by L (w .ahead) here (weighed-held p g left later t (i .known) L (ready o) w q);

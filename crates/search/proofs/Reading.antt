@@ -10,18 +10,18 @@ use native.Mathlib.Omega.{arith}
 use lib.ListN.{length, getD, set, drop, length-set}
 use lib.Seq.{drop-cons, getD-drop, drop-drop}
 use Rattle.tables.specs.Scan.{scanAt}
-use Rattle.price.specs.Level.{magnitude}
+use Rattle.price.specs.Level.{nearest}
 use Rattle.price.specs.Rule.{Rule, isZero}
 use Rattle.price.specs.Cheapest.{emptyBlock}
-use Rattle.price.specs.Search.{Ahead, ahead, taken, takenBy, goesOn, readOff}
-use Rattle.rule.specs.declared.scale.Scale.{Scale}
-use Rattle.rule.specs.declared.prices.Prices.{Prices}
-use Rattle.rule.specs.Scale.{Sound}
-use Rattle.rule.specs.Prices.{ruleBy}
-use Rattle.rule.specs.Places.{keptAt, keptPlaces, Scanned, Cleared}
-use Rattle.rule.proofs.Places.{places-count, place-at, nothing-there}
-use Rattle.rule.proofs.Filling.{Filled, filled-none, filled-next, filled-all}
-use Rattle.search.specs.Searching.{Ends, Decided, stopWith, ReadOff}
+use Rattle.price.specs.Inner.Search.{Ahead, ahead, taken, takenBy, goesOn, readOff}
+use Rattle.weights.specs.declared.scale.Scale.{Scale}
+use Rattle.weights.specs.declared.prices.Prices.{Prices}
+use Rattle.weights.specs.Inner.Scale.{Sound}
+use Rattle.weights.specs.Inner.Prices.{ruleBy}
+use Rattle.weights.specs.Inner.Places.{keptAt, keptPlaces, Scanned, Cleared}
+use Rattle.weights.proofs.Places.{places-count, place-at, nothing-there}
+use Rattle.weights.proofs.Filling.{Filled, filled-none, filled-next, filled-all}
+use Rattle.search.specs.Inner.Searching.{Ends, Decided, stopWith, ReadOff}
 
 -- ---- one place
 pub empty-at : (ps : List ℕ) (k : ℕ) → getD (emptyBlock ps) k 0 ≡ 0
@@ -112,53 +112,56 @@ stop-by P (suc a) (suc on) n stop x y = x
 
 -- before place n, of one block ls that is read off of ps: as much of it stands; while it goes on the rest of it is what
 -- is read off of the places that are left; and from `stop` on it is 0
-record Follows (side : ℕ) (r : Rule) (ps ls levels : List ℕ) (stop prev n : ℕ) : Type 0 where
-  standing : Filled side n levels ls
+record Follows (width height : ℕ) (r : Rule) (ps ls levels : List ℕ) (stop prev n : ℕ) : Type 0 where
+  standing : Filled width height n levels ls
   going : n < stop → drop n ls ≡ readOff r (isZero prev) (drop n ps)
   tail : (k : ℕ) → stop ≤ k → getD ls k 0 ≡ 0
 
 -- and so of every block for which that is chosen
-pub record Reading (side end : ℕ) (afterZero afterLevel ons levels : List ℕ) (stop prev n : ℕ) : Type 0 where
+pub record Reading (width height end : ℕ) (afterZero afterLevel ons levels : List ℕ) (stop prev n : ℕ) : Type 0 where
   pub place : n ≤ stop
   pub within : stop ≤ end
-  pub room : length levels ≡ side * side
-  blocks : (p : Prices) (g : Scale) (kept : List ℕ) → Sound g → Ends side kept end
-      → Decided p g side kept 0 end afterZero afterLevel ons
-      → Follows side (ruleBy p g) (keptPlaces g side kept) (readOff (ruleBy p g) false (keptPlaces g side kept))
+  pub room : length levels ≡ width * height
+  blocks : (p : Prices) (g : Scale) (kept : List ℕ) → Sound g → Ends width height kept end
+      → Decided p g width height kept 0 end afterZero afterLevel ons
+      → Follows width height (ruleBy p g) (keptPlaces g width height kept)
+      (readOff (ruleBy p g) false (keptPlaces g width height kept))
       levels stop prev n
 
-module _ (side end : ℕ) (afterZero afterLevel ons held : List ℕ) (sc : Scanned side held) where
-  module _ (p : Prices) (g : Scale) (kept : List ℕ) (sound : Sound g) (ends : Ends side kept end)
-      (decided : Decided p g side kept 0 end afterZero afterLevel ons) where
+module _ (width height end : ℕ) (afterZero afterLevel ons held : List ℕ) (sc : Scanned width height held) where
+  module _ (p : Prices) (g : Scale) (kept : List ℕ) (sound : Sound g) (ends : Ends width height kept end)
+      (decided : Decided p g width height kept 0 end afterZero afterLevel ons) where
     abbrev r : Rule
     r = ruleBy p g
 
     abbrev ps : List ℕ
-    ps = keptPlaces g side kept
+    ps = keptPlaces g width height kept
 
     abbrev ls : List ℕ
     ls = readOff r false ps
 
-    quiet-place : (k : ℕ) → k < side * side → keptAt side kept k ≡ 0 → r .top (getD ps k 0) ≡ 0
+    quiet-place : (k : ℕ) → k < width * height → keptAt width height kept k ≡ 0 → r .top (getD ps k 0) ≡ 0
     unfolding ruleBy
     quiet-place k h e =
-        ap (magnitude (g .shift)) (place-at side held sc g kept k h) ∙ nothing-there g sound (keptAt side kept k) e
+        ap (nearest (g .shift)) (place-at width height held sc g kept k h)
+        ∙ nothing-there g sound (keptAt width height kept k) e
 
-    begins : (levels : List ℕ) → Cleared levels → Follows side r ps ls levels end 1 0
+    begins : (levels : List ℕ) → Cleared levels → Follows width height r ps ls levels end 1 0
     begins levels z =
         record {
-          standing = filled-none side levels ls z;
+          standing = filled-none width height levels ls z;
           going = λ h. refl;
           tail =
               λ k h. quiet-read r false ps k
-              (λ l. let i : k < side * side = omega (arith, places-count side held sc g kept) in quiet-place k i
+              (λ l. let i : k < width * height = omega (arith, places-count width height held sc g kept) in
+              quiet-place k i
               (ends .tail k h i));
         }
 
-    module _ (levels : List ℕ) (stop prev n : ℕ) (f : Follows side r ps ls levels stop prev n) (lt : n < stop)
+    module _ (levels : List ℕ) (stop prev n : ℕ) (f : Follows width height r ps ls levels stop prev n) (lt : n < stop)
         (le : stop ≤ end)
-        (room : length levels ≡ side * side) (a : ℕ) (chose : a ≡ chosen afterZero afterLevel prev n) where
-      inside : n < side * side
+        (room : length levels ≡ width * height) (a : ℕ) (chose : a ≡ chosen afterZero afterLevel prev n) where
+      inside : n < width * height
       inside = omega (arith, ends .within)
 
       is-taken : a ≡ takenAt r ps n (isZero prev)
@@ -169,10 +172,10 @@ module _ (side end : ℕ) (afterZero afterLevel ons held : List ℕ) (sc : Scann
           by (suc b) = decided .level n (omega arith) (omega arith)
 
       -- something is kept where a nonzero level is taken
-      kept-there : 1 ≤ a → 1 ≤ keptAt side kept n
-      kept-there some = by (keptAt side kept n) refl
+      kept-there : 1 ≤ a → 1 ≤ keptAt width height kept n
+      kept-there some = by (keptAt width height kept n) refl
         where
-          by : (m : ℕ) → keptAt side kept n ≡ m → 1 ≤ m
+          by : (m : ℕ) → keptAt width height kept n ≡ m → 1 ≤ m
           by zero e =
               absurd (omega (
                 arith,
@@ -182,21 +185,22 @@ module _ (side end : ℕ) (afterZero afterLevel ons held : List ℕ) (sc : Scann
               ))
           by (suc m) e = omega arith
 
-      follows : Follows side r ps ls (set levels (scanAt side side n) a) (stopWith a (getD ons n 0) n stop) a (n + 1)
+      follows : Follows width height r ps ls (set levels (scanAt width height n) a) (stopWith a (getD ons n 0) n stop) a
+          (n + 1)
       follows =
-          let s = one-place r (isZero prev) ps ls n (omega (arith, inside, places-count side held sc g kept))
+          let s = one-place r (isZero prev) ps ls n (omega (arith, inside, places-count width height held sc g kept))
           (f .going lt) in
           let q =
           goes r (drop (suc n) ps) ls n stop (f .tail) a (getD ons n 0) (goesOnAt r ps n)
           (λ some. decided .on n (omega arith) (omega arith) (kept-there some)) (rw is-taken (s .1)) in
           record {
-            standing = filled-next side levels ls n inside held sc room a (s .0 ∙ sym is-taken) (f .standing);
+            standing = filled-next width height levels ls n inside held sc room a (s .0 ∙ sym is-taken) (f .standing);
             going = λ h. q .0 h ∙ ap (λ (k : ℕ). readOff r (isZero a) (drop k ps)) (sym (add-one n));
             tail = q .1;
           }
 
-  pub begun : (levels : List ℕ) → length levels ≡ side * side → Cleared levels
-      → Reading side end afterZero afterLevel ons levels end 1 0
+  pub begun : (levels : List ℕ) → length levels ≡ width * height → Cleared levels
+      → Reading width height end afterZero afterLevel ons levels end 1 0
   begun levels room z =
       record {
         place = omega arith;
@@ -206,23 +210,24 @@ module _ (side end : ℕ) (afterZero afterLevel ons held : List ℕ) (sc : Scann
             levels z;
       }
 
-  module _ (levels : List ℕ) (stop prev n : ℕ) (i : Reading side end afterZero afterLevel ons levels stop prev n) where
+  module _ (levels : List ℕ) (stop prev n : ℕ)
+      (i : Reading width height end afterZero afterLevel ons levels stop prev n) where
     pub reads : n < stop → (a : ℕ) → a ≡ chosen afterZero afterLevel prev n
-        → Reading side end afterZero afterLevel ons (set levels (scanAt side side n) a)
+        → Reading width height end afterZero afterLevel ons (set levels (scanAt width height n) a)
         (stopWith a (getD ons n 0) n stop) a (n + 1)
     reads h a e =
         record {
           place = stop-by (λ (s : ℕ). n + 1 ≤ s) a (getD ons n 0) n stop (omega arith) (omega arith);
           within = stop-by (λ (s : ℕ). s ≤ end) a (getD ons n 0) n stop (i .within) (omega (arith, i .within));
-          room = length-set levels (scanAt side side n) a ∙ i .room;
+          room = length-set levels (scanAt width height n) a ∙ i .room;
           blocks = λ p g kept s d c. follows p g kept s d c levels stop prev n (i .blocks p g kept s d c) h (i .within)
               (i .room) a e;
         }
 
-    pub read : stop ≤ n → ReadOff side end afterZero afterLevel ons levels
+    pub read : stop ≤ n → ReadOff width height end afterZero afterLevel ons levels
     read h p g kept s e d =
         let f = i .blocks p g kept s e d in (
           i .room,
-          filled-all side levels (readOff (ruleBy p g) false (keptPlaces g side kept)) n
+          filled-all width height levels (readOff (ruleBy p g) false (keptPlaces g width height kept)) n
               (λ k l. f .tail k (omega arith)) (f .standing),
         )

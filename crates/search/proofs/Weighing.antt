@@ -8,26 +8,26 @@ use Prim.Native.Nat.{ℕ, _+_, _-_, _≤_, _<_}
 use native.Mathlib.Omega.{arith}
 use lib.Dec.{ltb, eqb}
 use borrow.Author.Tests.{lt-ltb, le-ltb}
-use Rattle.price.specs.Level.{magnitude, distortion}
+use Rattle.price.specs.Level.{nearest, distortion}
 use Rattle.price.specs.Walk.{cheaper}
-use Rattle.rule.specs.declared.scale.Scale.{Scale}
-use Rattle.rule.specs.declared.prices.Prices.{Prices}
-use Rattle.rule.specs.declared.offers.Offer.{Offer}
-use Rattle.rule.specs.Prices.{Fine}
-use Rattle.rule.specs.Offers.{bare, offered, Offered}
+use Rattle.weights.specs.declared.scale.Scale.{Scale}
+use Rattle.weights.specs.declared.prices.Prices.{Prices}
+use Rattle.weights.specs.declared.offers.Offer.{Offer}
+use Rattle.weights.specs.Inner.Prices.{Fine}
+use Rattle.weights.specs.Inner.Offers.{bare, offered, Offered}
 use Rattle.search.specs.declared.place.Ahead.{Ahead}
 use Rattle.search.specs.declared.place.Choice.{Choice}
-use Rattle.search.specs.Searching.{ChosenOf, behindBy, zeroBy, levelBy, WeighedBy}
+use Rattle.search.specs.Inner.Searching.{ChosenOf, behindBy, zeroBy, levelBy, WeighedBy}
 
 -- ---- the offer is m at most
 one-of : (t : Bool) (a b m : ℕ) → a ≤ m → b ≤ m → cond t a b ≤ m
 one-of true a b m h k = h
 one-of false a b m h k = k
 
-offer-below : (p : Prices) (g : Scale) (L : ℕ) → offered true p g L ≤ magnitude (g .shift) L
+offer-below : (p : Prices) (g : Scale) (L : ℕ) → offered true p g L ≤ nearest (g .shift) L
 unfolding offered cheaper
 offer-below p g L =
-    let m = magnitude (g .shift) L in
+    let m = nearest (g .shift) L in
     let f = bare p g L in
     one-of (eqb m 1) m (cond (ltb (f m) (f (m - 1))) m (m - 1)) m (omega arith)
     (one-of (ltb (f m) (f (m - 1))) m (m - 1) m (omega arith) (omega arith))

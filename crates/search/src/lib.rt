@@ -4,12 +4,13 @@
 use crate::passes::last_place;
 use crate::passes::look_back;
 use crate::passes::read_off;
-use rule::prices::Prices;
-use rule::scale::Scale;
+use weights::prices::Prices;
+use weights::scale::Scale;
 ghost use mathlib.Core.Path.{_≡_};
-ghost use Prim.Native.Nat.{_≤_, _*_};
+ghost use Prim.Native.Nat.{_*_};
 ghost use lib.ListN.{length};
-ghost use Rattle.search.specs.Searching.{Findable, FoundOver};
+ghost use Rattle.price.specs.Cheapest.{cheapest};
+ghost use Rattle.weights.specs.Inner.Choosing.{Choosable, ChosenBy};
 
 mod passes;
 mod place;
@@ -20,7 +21,8 @@ fn find_in(
     kept: &[u16],
     levels: &mut [u16],
     scan: &[u16],
-    side: usize,
+    w: usize,
+    h: usize,
     p: Prices,
     g: Scale,
     d: u64,
@@ -29,16 +31,17 @@ fn find_in(
     after_level: &mut [u16],
     goes_on: &mut [u16],
 ) -> u64
-    requires { ⌜ Findable p g d side (now kept) (now scan) (now levels) count
-        × (length (now «after_zero») ≡ side * side) × (length (now «after_level») ≡ side * side)
-        × (length (now «goes_on») ≡ side * side) ⌝ }
-    ensures { λ r. ⌜ FoundOver p g d side (now (kept .entry)) (now (levels .exit)) r ⌝ }
+    requires { ⌜ Choosable p g d w h (now kept) (now scan) (now levels) count
+        × (length (now «after_zero») ≡ w * h) × (length (now «after_level») ≡ w * h)
+        × (length (now «goes_on») ≡ w * h) ⌝ }
+    ensures { λ r. ⌜ ChosenBy cheapest p g d w h (now (kept .entry)) (now (levels .exit)) r ⌝ }
 {
-    let end = last_place(kept, scan, side, count);
+    let end = last_place(kept, scan, w, h, count);
     let t = look_back(
         kept,
         scan,
-        side,
+        w,
+        h,
         p,
         g,
         end,
@@ -49,7 +52,7 @@ fn find_in(
     let coded = d - t.rest + t.level + p.coded;
     let empty = d + p.empty;
     if coded < empty {
-        read_off(levels, scan, side, end, after_zero, after_level, goes_on);
+        read_off(levels, scan, w, h, end, after_zero, after_level, goes_on);
         return coded;
     }
     empty
@@ -60,14 +63,15 @@ pub fn find_levels(
     kept: &[u16],
     levels: &mut [u16],
     scan: &[u16],
-    side: usize,
+    w: usize,
+    h: usize,
     p: Prices,
     g: Scale,
     d: u64,
     count: usize,
 ) -> u64
-    requires { ⌜ (side ≤ 32) × Findable p g d side (now kept) (now scan) (now levels) count ⌝ }
-    ensures { λ r. ⌜ FoundOver p g d side (now (kept .entry)) (now (levels .exit)) r ⌝ }
+    requires { ⌜ Choosable p g d w h (now kept) (now scan) (now levels) count ⌝ }
+    ensures { λ r. ⌜ ChosenBy cheapest p g d w h (now (kept .entry)) (now (levels .exit)) r ⌝ }
 {
     let n = kept.len();
     let mut after_zero = [0u16; 1024];
@@ -77,7 +81,8 @@ pub fn find_levels(
         kept,
         levels,
         scan,
-        side,
+        w,
+        h,
         p,
         g,
         d,

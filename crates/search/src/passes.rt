@@ -1,27 +1,27 @@
 // The two passes: back along the scan, noting what to choose at each place, and forth, reading it off.
 use crate::place::Ahead;
-use rule::prices::Prices;
-use rule::scale::Scale;
 use tables::scan::block_place;
 use tables::scan::magnitude_at;
 use tables::scan::put_magnitude;
 use tables::scan::scan_place;
+use weights::prices::Prices;
+use weights::scale::Scale;
 ghost use mathlib.Core.Path.{_≡_};
 ghost use Prim.Native.Nat.{_≤_, _<_, _*_};
 ghost use lib.ListN.{length};
 ghost use Rattle.price.specs.Price.{nonzeros};
-ghost use Rattle.rule.specs.Places.{Scanned, Cleared};
-ghost use Rattle.search.specs.Searching.{Ends, Sought, Known, Decided, stopWith, ReadOff};
+ghost use Rattle.weights.specs.Inner.Places.{Scanned, Cleared};
+ghost use Rattle.search.specs.Inner.Searching.{Ends, Sought, Known, Decided, stopWith, ReadOff};
 
 // How many places come up to and with the last one where something is kept.
-pub fn last_place(kept: &[u16], scan: &[u16], side: usize, count: usize) -> usize
-    requires { ⌜ Scanned side (now scan) × (length (now kept) ≡ side * side) × (count ≡ nonzeros (now kept)) ⌝ }
-    ensures { λ r. ⌜ Ends side (now (kept .entry)) r ⌝ }
+pub fn last_place(kept: &[u16], scan: &[u16], w: usize, h: usize, count: usize) -> usize
+    requires { ⌜ Scanned w h (now scan) × (length (now kept) ≡ w * h) × (count ≡ nonzeros (now kept)) ⌝ }
+    ensures { λ r. ⌜ Ends w h (now (kept .entry)) r ⌝ }
 {
     let mut left = count;
     let mut n = 0;
     while 0 < left {
-        let place = block_place(scan, side, side, scan_place(n));
+        let place = block_place(scan, w, h, scan_place(n));
         if magnitude_at(kept, place) != 0 {
             left -= 1;
         }
@@ -35,7 +35,8 @@ pub fn last_place(kept: &[u16], scan: &[u16], side: usize, count: usize) -> usiz
 pub fn look_back(
     kept: &[u16],
     scan: &[u16],
-    side: usize,
+    w: usize,
+    h: usize,
     p: Prices,
     g: Scale,
     end: usize,
@@ -43,11 +44,11 @@ pub fn look_back(
     after_level: &mut [u16],
     goes_on: &mut [u16],
 ) -> Ahead
-    requires { ⌜ Scanned side (now scan) × Sought p g side (now kept) × Ends side (now kept) end
-        × (length (now «after_zero») ≡ side * side) × (length (now «after_level») ≡ side * side)
-        × (length (now «goes_on») ≡ side * side) ⌝ }
-    ensures { λ r. ⌜ Known p g side (now (kept .entry)) 0 r
-        × Decided p g side (now (kept .entry)) 0 end (now («after_zero» .exit)) (now («after_level» .exit))
+    requires { ⌜ Scanned w h (now scan) × Sought p g w h (now kept) × Ends w h (now kept) end
+        × (length (now «after_zero») ≡ w * h) × (length (now «after_level») ≡ w * h)
+        × (length (now «goes_on») ≡ w * h) ⌝ }
+    ensures { λ r. ⌜ Known p g w h (now (kept .entry)) 0 r
+        × Decided p g w h (now (kept .entry)) 0 end (now («after_zero» .exit)) (now («after_level» .exit))
         (now («goes_on» .exit)) ⌝ }
 {
     let mut t = Ahead {
@@ -58,17 +59,17 @@ pub fn look_back(
     let mut n = end;
     while 0 < n {
         n -= 1;
-        let a = magnitude_at(kept, block_place(scan, side, side, scan_place(n)));
+        let a = magnitude_at(kept, block_place(scan, w, h, scan_place(n)));
         if a == 0 {
             t = t.pass(p);
             after_zero[n] = 0;
             after_level[n] = 0;
         } else {
-            let w = t.weigh(p, g, a as u64 * g.q as u64);
-            t = w.ahead;
-            after_zero[n] = w.zero as u16;
-            after_level[n] = w.level as u16;
-            goes_on[n] = w.on as u16;
+            let weighed = t.weigh(p, g, a as u64 * g.q as u64);
+            t = weighed.ahead;
+            after_zero[n] = weighed.zero as u16;
+            after_level[n] = weighed.level as u16;
+            goes_on[n] = weighed.on as u16;
         }
     }
     t
@@ -89,16 +90,17 @@ fn stop_with(level: u16, on: u16, n: usize, stop: usize) -> usize
 pub fn read_off(
     levels: &mut [u16],
     scan: &[u16],
-    side: usize,
+    w: usize,
+    h: usize,
     end: usize,
     after_zero: &[u16],
     after_level: &[u16],
     goes_on: &[u16],
 )
-    requires { ⌜ Scanned side (now scan) × (end ≤ side * side) × (length (now levels) ≡ side * side)
-        × Cleared (now levels) × (length (now «after_zero») ≡ side * side) × (length (now «after_level») ≡ side * side)
-        × (length (now «goes_on») ≡ side * side) ⌝ }
-    ensures { λ _. ⌜ ReadOff side end (now («after_zero» .entry)) (now («after_level» .entry)) (now («goes_on» .entry))
+    requires { ⌜ Scanned w h (now scan) × (end ≤ w * h) × (length (now levels) ≡ w * h)
+        × Cleared (now levels) × (length (now «after_zero») ≡ w * h) × (length (now «after_level») ≡ w * h)
+        × (length (now «goes_on») ≡ w * h) ⌝ }
+    ensures { λ _. ⌜ ReadOff w h end (now («after_zero» .entry)) (now («after_level» .entry)) (now («goes_on» .entry))
         (now (levels .exit)) ⌝ }
 {
     let mut stop = end;
@@ -109,7 +111,7 @@ pub fn read_off(
         if prev == 0 {
             a = after_zero[n];
         }
-        put_magnitude(levels, block_place(scan, side, side, scan_place(n)), a);
+        put_magnitude(levels, block_place(scan, w, h, scan_place(n)), a);
         stop = stop_with(a, goes_on[n], n, stop);
         prev = a;
         n += 1;

@@ -1,11 +1,11 @@
 // One place of the search: passed where its m is 0, else weighed. What a magnitude costs here is added to the least
 // price of what it leaves to come.
-use rule::errors::squared_below;
-use rule::offers::make_offer;
-use rule::prices::Prices;
-use rule::scale::Scale;
+use weights::errors::squared_below;
+use weights::offers::make_offer;
+use weights::prices::Prices;
+use weights::scale::Scale;
 ghost use mathlib.Core.Path.{_≡_};
-ghost use Rattle.search.specs.Searching.{ChosenOf, Passable, passedBy, Ready, WeighedBy};
+ghost use Rattle.search.specs.Inner.Searching.{ChosenOf, Passable, passedBy, Ready, WeighedBy};
 
 // What is known from a place on. zero, level: the least price of what has a nonzero level still to come, after a 0 and
 // after a nonzero level, 2^63 and more where there is none; rest: the uncoded squares.

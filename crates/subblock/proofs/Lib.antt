@@ -1,17 +1,3 @@
-pub mod Numbers
-pub mod Asked
-pub mod Stretches
-pub mod OneComponent
-pub mod ThreeParts
-pub mod Turns
-pub mod Late
-pub mod Accepted
 pub mod Passed
 pub mod Whole
-pub mod Alone
-pub mod NotRun
-pub mod LumaAlone
 pub mod Finished
-pub mod Coincide
-pub mod TwoModes
-pub mod Cap

@@ -1,3 +1,1 @@
-pub mod Call
-pub mod Tested
-pub mod Parts
+pub mod Inner

@@ -1,7 +1,7 @@
-pub mod Sides
 pub mod Symmetry
 pub mod RowSums
 pub mod OddRows
 pub mod OneToOne
 pub mod Order
 pub mod ErrorScale
+pub mod Range

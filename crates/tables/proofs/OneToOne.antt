@@ -16,8 +16,9 @@ use lib.Seq.{getD-append-add}
 use Rattle.integers.specs.Tests.{all}
 use Rattle.integers.proofs.Order.{below-or-not}
 use Rattle.integers.proofs.Tests.{all-at, listed-at, listed-length}
-use Rattle.tables.specs.Scan.{low, high, count, upwards, column, onDiagonal, diagonal, diagonals, scan, scanAt}
-use Rattle.tables.specs.Scan.{square}
+use Rattle.refusals.specs.Sides.{mostLog2}
+use Rattle.tables.specs.Scan.{low, high, count, upwards, xAt, onDiagonal, diagonal, diagonals, scan, scanAt}
+use Rattle.tables.specs.Scan.{squareScan}
 
 -- the i-th of the numbers from lo to hi, upwards or downwards, stands i after the first
 back : (up : Bool) (lo hi i : ℕ) → i < hi + 1 - lo
@@ -36,12 +37,12 @@ module _ (w h : ℕ) where
     pub d : ℕ
     pub i : ℕ
     pub inside : i < count w h d
-    pub is : v ≡ onDiagonal w d (column w h d i)
+    pub is : v ≡ onDiagonal w d (xAt w h d i)
     pub counted : k ≡ before d + i
 
   diagonal-length : (d : ℕ) → length (diagonal w h d) ≡ count w h d
   unfolding diagonal
-  diagonal-length d = listed-length (λ i. onDiagonal w d (column w h d i)) 0 (count w h d)
+  diagonal-length d = listed-length (λ i. onDiagonal w d (xAt w h d i)) 0 (count w h d)
 
   on-diagonals : (d n k : ℕ) → k < length (diagonals w h d n) → On (getD (diagonals w h d n) k 0) (before d + k)
   unfolding diagonals diagonal before
@@ -60,7 +61,7 @@ module _ (w h : ℕ) where
             inside = q;
             is =
                 List·getD-append (diagonal w h d) rest 0 k (omega (arith, diagonal-length d))
-                ∙ listed-at 0 (λ i. onDiagonal w d (column w h d i)) (count w h d) k q;
+                ∙ listed-at 0 (λ i. onDiagonal w d (xAt w h d i)) (count w h d) k q;
             counted = refl;
           }
 
@@ -81,16 +82,16 @@ module _ (w h : ℕ) where
       subst (λ (k : ℕ). On (scanAt w h p) k) (let e : 0 + p ≡ p = omega arith in e) (on-diagonals 0 (w + h - 1) p q)
 
   -- ---- a block place, taken apart
-  -- the columns that a diagonal meets
-  record Column (d x : ℕ) : Type 0 where
+  -- the x that a diagonal meets
+  record Met (d x : ℕ) : Type 0 where
     pub from : low h d ≤ x
     pub upto : x ≤ high w d
 
-  column-met : (d i : ℕ) → i < count w h d → Column d (column w h d i)
-  unfolding count column
-  column-met d i q = by (upwards d)
+  x-met : (d i : ℕ) → i < count w h d → Met d (xAt w h d i)
+  unfolding count xAt
+  x-met d i q = by (upwards d)
     where
-      by : (even : Bool) → Column d (cond even (low h d + i) (high w d - i))
+      by : (even : Bool) → Met d (cond even (low h d + i) (high w d - i))
       by true = record { from = omega arith; upto = omega arith }
       by false = record { from = omega arith; upto = omega arith }
 
@@ -99,8 +100,8 @@ module _ (w h : ℕ) where
     unfolding onDiagonal low high
     scan-inside p q =
         let o = on-scan p q in
-        let x = column w h (o .d) (o .i) in
-        let m = column-met (o .d) (o .i) (o .inside) in
+        let x = xAt w h (o .d) (o .i) in
+        let m = x-met (o .d) (o .i) (o .inside) in
         let y = o .d - x in
         let b : y * w ≤ (h - 1) * w = mul-le-mul-right w (omega (arith, m .from)) in
         let e : suc (h - 1) ≡ h = omega arith in
@@ -113,12 +114,12 @@ module _ (w h : ℕ) where
     rank : ℕ → ℕ
     rank b = rankAt (b % w + b / w) (b % w)
 
-    rank-on : (d i : ℕ) → i < count w h d → rank (onDiagonal w d (column w h d i)) ≡ before d + i
-    unfolding rank rankAt onDiagonal column count low high
+    rank-on : (d i : ℕ) → i < count w h d → rank (onDiagonal w d (xAt w h d i)) ≡ before d + i
+    unfolding rank rankAt onDiagonal xAt count low high
     rank-on d i q =
-        let x = column w h d i in
+        let x = xAt w h d i in
         let b = (d - x) * w + x in
-        let m = column-met d i q in
+        let m = x-met d i q in
         let l : x < w = omega (arith, m .upto) in
         let ex : b % w ≡ x = mul-add-mod-self-right (d - x) w x ∙ mod-eq-of-lt l in
         let ey : b / w ≡ d - x + 0 =
@@ -138,16 +139,18 @@ module _ (w h : ℕ) where
         ∙ rank-on (n .d) (n .i) (n .inside)
         ∙ sym (n .counted)
 
--- as many scan places as block places, by one computed test over all sides to 32
-pub scan-length : (a b : ℕ) → a ≤ 5 → b ≤ 5 → length (scan (2 ^ a) (2 ^ b)) ≡ 2 ^ a * 2 ^ b
+-- as many scan places as block places, by one computed test over all sides
+pub scan-length : (a b : ℕ) → a ≤ mostLog2 → b ≤ mostLog2 → length (scan (2 ^ a) (2 ^ b)) ≡ 2 ^ a * 2 ^ b
 unfolding scan all
 scan-length a b ha hb =
     eqb→eq (length (scan (2 ^ a) (2 ^ b))) (2 ^ a * 2 ^ b)
-    (all-at 6 (λ b. eqb (length (scan (2 ^ a) (2 ^ b))) (2 ^ a * 2 ^ b))
-    (all-at 6 (λ a. all 6 (λ b. eqb (length (scan (2 ^ a) (2 ^ b))) (2 ^ a * 2 ^ b))) tt a (omega arith))
+    (all-at (suc mostLog2) (λ b. eqb (length (scan (2 ^ a) (2 ^ b))) (2 ^ a * 2 ^ b))
+    (all-at (suc mostLog2) (λ a. all (suc mostLog2) (λ b. eqb (length (scan (2 ^ a) (2 ^ b))) (2 ^ a * 2 ^ b))) tt a
+    (omega arith))
     b (omega arith))
 
-pub square-length : (l : ℕ) → l ≤ 5 → length (square l) ≡ 4 ^ l
-unfolding square all
-square-length l h =
-    eqb→eq (length (square l)) (4 ^ l) (all-at 6 (λ l. eqb (length (square l)) (4 ^ l)) tt l (omega arith))
+pub square-scan-length : (l : ℕ) → l ≤ mostLog2 → length (squareScan l) ≡ 4 ^ l
+unfolding squareScan all
+square-scan-length l h =
+    eqb→eq (length (squareScan l)) (4 ^ l)
+    (all-at (suc mostLog2) (λ l. eqb (length (squareScan l)) (4 ^ l)) tt l (omega arith))

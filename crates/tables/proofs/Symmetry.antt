@@ -1,24 +1,19 @@
--- What a butterfly needs of the matrices: an even row reads the same from both ends, an odd one with its sign changed,
--- and the even rows of side 2h begin with the rows of side h. Each by one computed test over the sides.
+-- The matrices have the symmetry that a butterfly needs, at every side. Each of its three facts by one computed test
+-- over the sides.
 -- Assumes nothing.
-use mathlib.Core.Path.{_≡_}
 use mathlib.Core.Bool.{Bool}
 use Prim.Native.Nat.{ℕ, _+_, _-_, _*_, _^_, _<_}
 use lib.Dec.{T}
 use lib.IntN.{negℤ}
 use Rattle.integers.specs.Tests.{all, eqℤ}
 use Rattle.integers.proofs.Tests.{all-at, eqℤ→eq}
+use Rattle.refusals.specs.Sides.{mostLog2}
 use Rattle.tables.specs.Matrix.{matrix}
-
--- the matrix of side 2h over that of side h
-pub record Level (h : ℕ) : Type 0 where
-  pub even : (k n : ℕ) → k < h → n < h → matrix (h + h) (2 * k) (h + h - 1 - n) ≡ matrix (h + h) (2 * k) n
-  pub odd : (k n : ℕ) → k < h → n < h → matrix (h + h) (2 * k + 1) (h + h - 1 - n) ≡ negℤ (matrix (h + h) (2 * k + 1) n)
-  pub nested : (k n : ℕ) → k < h → n < h → matrix (h + h) (2 * k) n ≡ matrix h k n
+use Rattle.tables.specs.Inner.Symmetry.{Symmetric}
 
 -- a test at every row and column of the halves of sides 2, 4, 8, 16 and 32
 everywhere : (ℕ → ℕ → ℕ → Bool) → Bool
-everywhere test = all 5 (λ l. all (2 ^ l) (λ k. all (2 ^ l) (λ n. test (2 ^ l) k n)))
+everywhere test = all mostLog2 (λ l. all (2 ^ l) (λ k. all (2 ^ l) (λ n. test (2 ^ l) k n)))
 
 even-test : ℕ → ℕ → ℕ → Bool
 even-test h k n = eqℤ (matrix (h + h) (2 * k) (h + h - 1 - n)) (matrix (h + h) (2 * k) n)
@@ -29,18 +24,18 @@ odd-test h k n = eqℤ (matrix (h + h) (2 * k + 1) (h + h - 1 - n)) (negℤ (mat
 nested-test : ℕ → ℕ → ℕ → Bool
 nested-test h k n = eqℤ (matrix (h + h) (2 * k) n) (matrix h k n)
 
-module _ (l : ℕ) (hl : l < 5) where
+module _ (l : ℕ) (hl : l < mostLog2) where
   passed : (test : ℕ → ℕ → ℕ → Bool) → T (everywhere test) → (k n : ℕ) → k < 2 ^ l → n < 2 ^ l → T (test (2 ^ l) k n)
   unfolding everywhere
   passed test t k n hk hn =
       all-at (2 ^ l) (λ n. test (2 ^ l) k n)
       (all-at (2 ^ l) (λ k. all (2 ^ l) (λ n. test (2 ^ l) k n))
-      (all-at 5 (λ l. all (2 ^ l) (λ k. all (2 ^ l) (λ n. test (2 ^ l) k n))) t l hl) k hk)
+      (all-at mostLog2 (λ l. all (2 ^ l) (λ k. all (2 ^ l) (λ n. test (2 ^ l) k n))) t l hl) k hk)
       n hn
 
-  pub level : Level (2 ^ l)
+  pub matrix-symmetric : Symmetric matrix (2 ^ l)
   unfolding everywhere all even-test odd-test nested-test matrix
-  level =
+  matrix-symmetric =
       record {
         even = λ k n hk hn. eqℤ→eq _ _ (passed even-test tt k n hk hn);
         odd = λ k n hk hn. eqℤ→eq _ _ (passed odd-test tt k n hk hn);

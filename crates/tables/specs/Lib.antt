@@ -1,5 +1,4 @@
-pub mod Sides
 pub mod Matrix
-pub mod OddRows
 pub mod Scan
 pub mod Scales
+pub mod Inner

@@ -2,7 +2,7 @@
 -- numbers c(a), so that another side with other numbers is one more instance; document 01 has B = 32 and c from column
 -- 0 of T_32.
 use mathlib.Core.Bool.{cond}
-use mathlib.Core.List.{List, [], _∷_}
+use mathlib.Core.List.{List, [], _∷_, _++_}
 use Prim.Native.Nat.{ℕ, zero, suc, _+_, _*_, _-_, _/_, _%_, _^_}
 use lib.Dec.{ltb}
 use lib.ListN.{getD}
@@ -24,8 +24,8 @@ byRule B c zero n = pos 64
 byRule B c (suc k) n = wave B c (angle B (suc k) n)
 
 -- c(1) to c(31): column 0 of T_32 below its first row
-unfoldable pub column : ℕ → ℤ
-column a =
+unfoldable pub firstColumn : ℕ → ℤ
+firstColumn a =
     pos
     (getD
     (0
@@ -33,12 +33,21 @@ column a =
     ∷ 61 ∷ 57 ∷ 54 ∷ 50 ∷ 47 ∷ 43 ∷ 39 ∷ 35 ∷ 30 ∷ 26 ∷ 22 ∷ 18 ∷ 13 ∷ 9 ∷ 4 ∷ [])
     a 0)
 
+-- a matrix for each side: its entry by side, row and column
+abbrev pub Matrices : Type 0
+Matrices = (N k n : ℕ) → ℤ
+
 -- T_N[k][n] is T_32[k·32/N][n]
-unfoldable pub matrix : (N k n : ℕ) → ℤ
-unfolding byRule column
-matrix N k n = byRule 32 column (k * (32 / N)) n
+unfoldable pub matrix : Matrices
+unfolding byRule firstColumn
+matrix N k n = byRule 32 firstColumn (k * (32 / N)) n
 
 -- the matrix of side 2^l by rows
-unfoldable pub rowsOf : ℕ → List ℤ
+unfoldable pub byRows : ℕ → List ℤ
 unfolding matrix listed
-rowsOf l = listed (λ i. matrix (2 ^ l) (i / 2 ^ l) (i % 2 ^ l)) 0 (4 ^ l)
+byRows l = listed (λ i. matrix (2 ^ l) (i / 2 ^ l) (i % 2 ^ l)) 0 (4 ^ l)
+
+-- those of the five sides, one after the other, as they are listed
+unfoldable pub fiveMatrices : List ℤ
+unfolding byRows
+fiveMatrices = byRows 1 ++ (byRows 2 ++ (byRows 3 ++ (byRows 4 ++ byRows 5)))

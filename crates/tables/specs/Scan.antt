@@ -6,11 +6,12 @@ use Prim.Native.Nat.{ℕ, zero, suc, _+_, _-_, _*_, _%_, _^_, min}
 use lib.Dec.{eqb}
 use lib.ListN.{getD}
 use Rattle.integers.specs.Tests.{listed}
+use Rattle.refusals.specs.Sides.{mostLog2}
 use Rattle.tables.specs.declared.scans.Scans.{Scans}
 
 -- the places of the largest block, 32 wide and 32 high: scan places and block places are counts below it
 abbrev pub mostPlaces : ℕ
-mostPlaces = 1024
+mostPlaces = 4 ^ mostLog2
 
 -- x on the diagonal d runs from `low` to `high`, and has `count` values
 unfoldable pub low : (h d : ℕ) → ℕ
@@ -28,17 +29,17 @@ unfoldable pub upwards : ℕ → Bool
 upwards d = eqb (d % 2) 0
 
 -- the i-th x of the diagonal d
-unfoldable pub column : (w h d i : ℕ) → ℕ
+unfoldable pub xAt : (w h d i : ℕ) → ℕ
 unfolding low high upwards
-column w h d i = cond (upwards d) (low h d + i) (high w d - i)
+xAt w h d i = cond (upwards d) (low h d + i) (high w d - i)
 
 -- the block place of column x on the diagonal d
 unfoldable pub onDiagonal : (w d x : ℕ) → ℕ
 onDiagonal w d x = (d - x) * w + x
 
 unfoldable pub diagonal : (w h d : ℕ) → List ℕ
-unfolding count column onDiagonal listed
-diagonal w h d = listed (λ i. onDiagonal w d (column w h d i)) 0 (count w h d)
+unfolding count xAt onDiagonal listed
+diagonal w h d = listed (λ i. onDiagonal w d (xAt w h d i)) 0 (count w h d)
 
 -- n diagonals from d on
 unfoldable pub diagonals : (w h d n : ℕ) → List ℕ
@@ -57,10 +58,17 @@ unfolding scan
 scanAt w h p = getD (scan w h) p 0
 
 -- the scan of a square block of side 2^l
-unfoldable pub square : ℕ → List ℕ
+unfoldable pub squareScan : ℕ → List ℕ
 unfolding scan
-square l = scan (2 ^ l) (2 ^ l)
+squareScan l = scan (2 ^ l) (2 ^ l)
 
 -- the scans of the five sides, as the table has them
-abbrev pub squares : Scans
-squares = record { two = square 1; four = square 2; eight = square 3; sixteen = square 4; thirtytwo = square 5 }
+abbrev pub squareScans : Scans
+squareScans =
+    record {
+      two = squareScan 1;
+      four = squareScan 2;
+      eight = squareScan 3;
+      sixteen = squareScan 4;
+      thirtytwo = squareScan 5;
+    }

@@ -5,7 +5,7 @@ use crate::matrices::ODD_4;
 use crate::matrices::ODD_8;
 use crate::matrices::ODD_16;
 ghost use mathlib.Core.Path.{_≡_};
-ghost use Rattle.tables.specs.OddRows.{oddRows};
+ghost use Rattle.tables.specs.Inner.OddRows.{oddRows};
 
 pub fn odd_2() -> [i32; 4]
     ensures { λ r. ⌜ r ≡ oddRows 2 ⌝ }

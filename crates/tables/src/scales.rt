@@ -1,6 +1,7 @@
 // The scales of the quantiser.
 ghost use mathlib.Core.Path.{_≡_};
 ghost use Prim.Native.Nat.{_≤_};
+ghost use Rattle.refusals.specs.Sides.{mostLog2};
 ghost use Rattle.tables.specs.Scales.{forward, scaleOf, errorScale};
 
 // q by QP mod 6.
@@ -48,7 +49,7 @@ pub fn scale(qp: u32) -> u32
 }
 
 pub fn error_scale(log2: usize, qp: u32) -> u32
-    requires { ⌜ (1 ≤ log2) × (log2 ≤ 5) ⌝ }
+    requires { ⌜ (1 ≤ log2) × (log2 ≤ mostLog2) ⌝ }
     ensures { λ r. ⌜ r ≡ errorScale log2 (scaleOf forward qp) ⌝ }
 {
     let table = ERROR_SCALES;

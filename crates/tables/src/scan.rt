@@ -4,8 +4,8 @@ use crate::scans::Scans;
 ghost use mathlib.Core.Path.{_≡_};
 ghost use Prim.Native.Nat.{_≤_, _<_, _*_, _^_};
 ghost use lib.ListN.{length, getD, set};
-ghost use lib.IntN.{pos};
-ghost use Rattle.tables.specs.Scan.{mostPlaces, scan, scanAt, square, squares};
+ghost use Rattle.refusals.specs.Sides.{mostLog2};
+ghost use Rattle.tables.specs.Scan.{mostPlaces, scan, scanAt, squareScan, squareScans};
 
 // A place in scan order, and a place in the block by rows: counts below `mostPlaces`. What they hold is reached in this
 // file alone, so that only the lookup turns the first into the second, and none can be taken for the other.
@@ -15,7 +15,7 @@ pub struct BlockPlace(usize);
 
 // The listed table: the diagonal rule's numbers.
 fn listed() -> Scans
-    ensures { λ r. ⌜ r ≡ squares ⌝ }
+    ensures { λ r. ⌜ r ≡ squareScans ⌝ }
 {
     SCANS
 }
@@ -35,8 +35,8 @@ fn copy(from: &[u16], to: &mut [u16])
 // The scan of a square block of side 2^log2, for the lookup: taken once a call. Of the table a call writes out the list
 // of its side alone.
 pub fn fill_scan(log2: usize, held: &mut [u16])
-    requires { ⌜ (1 ≤ log2) × (log2 ≤ 5) × (length (now held) ≡ 4 ^ log2) ⌝ }
-    ensures { λ _. ⌜ now (held .exit) ≡ square log2 ⌝ }
+    requires { ⌜ (1 ≤ log2) × (log2 ≤ mostLog2) × (length (now held) ≡ 4 ^ log2) ⌝ }
+    ensures { λ _. ⌜ now (held .exit) ≡ squareScan log2 ⌝ }
 {
     let table = listed();
     if log2 == 1 {
@@ -73,24 +73,7 @@ pub fn block_place(held: &[u16], w: usize, h: usize, p: ScanPlace) -> BlockPlace
     BlockPlace(held[at] as usize)
 }
 
-// What stands in a block at a place.
-pub fn value_at(block: &[i16], place: BlockPlace) -> i16
-    requires { ⌜ place .0 < length (now block) ⌝ }
-    ensures { λ r. ⌜ r ≡ getD (now (block .entry)) (place .0) (pos 0) ⌝ }
-{
-    let at = place.0;
-    block[at]
-}
-
-pub fn put_at(block: &mut [i16], place: BlockPlace, value: i16)
-    requires { ⌜ place .0 < length (now block) ⌝ }
-    ensures { λ _. ⌜ now (block .exit) ≡ set (now (block .entry)) (place .0) value ⌝ }
-{
-    let at = place.0;
-    block[at] = value;
-}
-
-// The same of a list of magnitudes that stands beside a block, by rows as the block is.
+// What stands at a place in a list of magnitudes, by rows as the block is that it belongs to.
 pub fn magnitude_at(magnitudes: &[u16], place: BlockPlace) -> u16
     requires { ⌜ place .0 < length (now magnitudes) ⌝ }
     ensures { λ r. ⌜ r ≡ getD (now (magnitudes .entry)) (place .0) 0 ⌝ }

@@ -1,7 +1,7 @@
 // Answers requests: for each line of standard input a line of standard output, `malformed` where it is longer than
 // 65,535 bytes. It ends where the input ends.
+use input::Line;
 use libc::STDOUT_FILENO;
-use lines::Line;
 
 // A line without bytes is malformed, and so is one that was passed over.
 fn answer_too_long(out: &mut [u8; 65536]) {
@@ -18,11 +18,11 @@ fn answer(line: &[u8], out: &mut [u8; 65536]) {
 
 // The loop counts its turns down, from a number that no run uses up: it ends at the end of the input.
 fn answer_all(buf: &mut [u8], out: &mut [u8; 65536]) {
-    let mut c = lines::start();
+    let mut c = input::start();
     let mut turns = u64::MAX;
     while turns > 0 {
         turns -= 1;
-        match lines::next(buf, c) {
+        match input::next(buf, c) {
             Line::At { from, end, rest } => {
                 answer(&buf[from..end], out);
                 c = rest;

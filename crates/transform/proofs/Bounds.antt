@@ -17,6 +17,7 @@ use Rattle.integers.proofs.Grid.{row-inside, column-inside}
 use Rattle.integers.proofs.Lists.{passed-by-none}
 use Rattle.integers.proofs.Some.{none-above}
 use Rattle.integers.proofs.Tests.{listed-at, listed-length}
+use Rattle.refusals.specs.Sides.{mostLog2}
 use Rattle.transform.specs.Coefficients.{coefficient, coefficients}
 use Rattle.transform.specs.Call.{wild}
 use Rattle.transform.proofs.Whole.{coefficient-bound}
@@ -30,8 +31,8 @@ not-least : (z : ℤ) → natAbs z ≤ 32736 → eqℤ z (negsuc 32767) ≡ fals
 not-least (pos a) h = refl
 not-least (negsuc a) h = ne-eqb a 32767 (λ e. let no : ⊥ = omega arith in no)
 
-module _ (lw lh : ℕ) (hw : lw ≤ 5) (hh : lh ≤ 5) (r : List ℤ) (lr : length r ≡ 2 ^ lw * 2 ^ lh) (tame : some wild r
-    ≡ false) where
+module _ (lw lh : ℕ) (hw : lw ≤ mostLog2) (hh : lh ≤ mostLog2) (r : List ℤ)
+    (lr : length r ≡ 2 ^ lw * 2 ^ lh) (tame : some wild r ≡ false) where
   pub coefficients-small : (k : ℕ) → k < 2 ^ lw * 2 ^ lh → natAbs (getD (coefficients r lw lh) k (pos 0)) ≤ 32736
   unfolding coefficients
   coefficients-small k h =

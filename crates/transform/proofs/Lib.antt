@@ -1,11 +1,4 @@
 pub mod Numbers
-pub mod OddHalf
-pub mod Pair
-pub mod Level
-pub mod Places
-pub mod Columns
-pub mod Halves
-pub mod Settle
 pub mod Whole
 pub mod Verdict
 pub mod Bounds

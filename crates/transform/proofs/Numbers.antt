@@ -5,7 +5,7 @@ use mathlib.Core.Path.{_≡_, refl}
 use mathlib.Core.List.{List, [], _∷_}
 use Prim.Native.Nat.{ℕ}
 use lib.IntN.{ℤ, pos, negℤ}
-use Rattle.refusals.specs.Faults.{accepted, refused}
+use Rattle.refusals.specs.Faults.{passed, refused}
 use Rattle.transform.specs.Call.{Trans, transVerdict, transBuffer}
 
 -- n, and -n
@@ -21,7 +21,7 @@ call lw lh buffer = record { buffer = buffer; lw = lw; lh = lh }
 
 -- accepted, with this buffer at the end
 abbrev pub Gives : Trans → List ℤ → Type 0
-Gives t after = (transVerdict t ≡ accepted) × (transBuffer t ≡ after)
+Gives t after = (transVerdict t ≡ passed) × (transBuffer t ≡ after)
 
 -- refused, with the buffer as it was
 abbrev pub Refuses : Trans → ℕ → Type 0

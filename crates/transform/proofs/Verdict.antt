@@ -19,7 +19,8 @@ use Rattle.integers.proofs.Grid.{inside}
 use Rattle.integers.proofs.Tests.{listed-at, listed-length}
 use Rattle.integers.proofs.Fill.{filled-all}
 use Rattle.tables.specs.Matrix.{matrix}
-use Rattle.refusals.specs.Faults.{Verdict, accepted, refused, ifAccepted, outside}
+use Rattle.refusals.specs.Sides.{mostLog2}
+use Rattle.refusals.specs.Faults.{Outcome, passed, refused, ifAccepted, outside}
 use Rattle.transform.specs.Coefficients.{product, coefficient, coefficients}
 use Rattle.transform.specs.Call.{called, wild, transVerdict, transformed, transBuffer}
 
@@ -32,18 +33,18 @@ module _ (buffer : List ℤ) (lw lh : ℕ) where
   unchanged : (number : ℕ) → transVerdict (called buffer lw lh) ≡ refused number 0 → Refuses number
   unfolding transBuffer
   unchanged number e =
-      (sym e, sym (ap (λ (v : Verdict). ifAccepted v (transformed (called buffer lw lh)) buffer) e))
+      (sym e, sym (ap (λ (v : Outcome Unit). ifAccepted v (transformed (called buffer lw lh)) buffer) e))
 
-  pub no-width : outside 1 5 lw ≡ true → Refuses 1
+  pub no-width : outside 1 mostLog2 lw ≡ true → Refuses 1
   unfolding transVerdict
   no-width h = unchanged 1 (rw h)
 
-  module _ (hw : outside 1 5 lw ≡ false) where
-    pub no-height : outside 1 5 lh ≡ true → Refuses 1
+  module _ (hw : outside 1 mostLog2 lw ≡ false) where
+    pub no-height : outside 1 mostLog2 lh ≡ true → Refuses 1
     unfolding transVerdict
     no-height h = unchanged 1 (rw (hw, h))
 
-    module _ (hh : outside 1 5 lh ≡ false) where
+    module _ (hh : outside 1 mostLog2 lh ≡ false) where
       pub too-short : ltb (length buffer) (2 ^ lw * 2 ^ lh) ≡ true → Refuses 5
       unfolding transVerdict
       too-short h = unchanged 5 (rw (hw, hh, h))
@@ -53,14 +54,14 @@ module _ (buffer : List ℤ) (lw lh : ℕ) where
         unfolding transVerdict
         too-wild h = unchanged 6 (rw (hw, hh, hl, h))
 
-        pub no-fault : some wild (take (2 ^ lw * 2 ^ lh) buffer) ≡ false → accepted ≡ transVerdict (called buffer lw lh)
+        pub no-fault : some wild (take (2 ^ lw * 2 ^ lh) buffer) ≡ false → passed ≡ transVerdict (called buffer lw lh)
         unfolding transVerdict
         no-fault h = rw (hw, hh, hl, h)
 
-  pub changed : accepted ≡ transVerdict (called buffer lw lh)
+  pub changed : passed ≡ transVerdict (called buffer lw lh)
       → coefficients buffer lw lh ++ drop (2 ^ lw * 2 ^ lh) buffer ≡ transBuffer (called buffer lw lh)
   unfolding transBuffer
-  changed e = ap (λ (v : Verdict). ifAccepted v (transformed (called buffer lw lh)) buffer) e
+  changed e = ap (λ (v : Outcome Unit). ifAccepted v (transformed (called buffer lw lh)) buffer) e
 
   -- the front of the buffer has the same coefficients
   abbrev front : List ℤ

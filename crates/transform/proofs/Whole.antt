@@ -9,7 +9,7 @@ use native.Mathlib.Omega.{arith}
 use lib.Pow.{pow-pos, pow-mono, pow-add}
 use lib.ListN.{length}
 use lib.IntN.{ℤ, pos, natAbs, _*ℤ_}
-use Rattle.integers.specs.Sum.{sum, onℤ, sumℤ, at}
+use Rattle.integers.specs.Sum.{onℤ, sumℤ, at}
 use Rattle.integers.specs.Floor.{rounded}
 use Rattle.integers.specs.Tests.{listed}
 use Rattle.integers.proofs.Ring.{*-assoc}
@@ -19,10 +19,14 @@ use Rattle.integers.proofs.Floor.{rounded-bound}
 use Rattle.integers.proofs.Grid.{inside, row-of, column-of, row-inside, column-inside, place-is}
 use Rattle.integers.proofs.Tests.{listed-at, listed-length}
 use Rattle.integers.proofs.Fill.{filled-all}
+use Rattle.refusals.specs.Sides.{mostLog2}
 use Rattle.tables.specs.Matrix.{matrix}
 use Rattle.transform.specs.Coefficients.{product, coefficient, coefficients}
-use Rattle.transform.specs.Lines.{stageAt, Staged, Room, half}
-use Rattle.transform.proofs.Halves.{row-bound, half-bound, half-rounded}
+use Rattle.butterfly.specs.Inner.Lines.{Room}
+use Rattle.stages.specs.Inner.Stages.{stageAt, Staged}
+use Rattle.halves.specs.Inner.Halves.{half}
+use Rattle.butterfly.proofs.Bounds.{row-bound}
+use Rattle.halves.proofs.Halves.{half-bound, half-rounded}
 
 -- the shift takes away 128 times the block's places
 shift-is : (lw lh : ℕ) → 2 ^ (7 + lw + lh) ≡ 128 * (2 ^ lw * 2 ^ lh)
@@ -39,7 +43,7 @@ side-by-lines n lines lw lh e l = e ∙ ap (λ (m : ℕ). 2 ^ lw * m) (sym l)
 pub largest : (n lw lh : ℕ) → n ≡ 2 ^ lw * 2 ^ lh → lw + lh ≡ 10 → n ≡ 1024
 largest n lw lh e t = e ∙ sym (pow-add 2 lw lh) ∙ ap (λ (k : ℕ). 2 ^ k) t
 
-pub at-most-1024 : (n lw lh : ℕ) → n ≡ 2 ^ lw * 2 ^ lh → lw ≤ 5 → lh ≤ 5 → n ≤ 1024
+pub at-most-1024 : (n lw lh : ℕ) → n ≡ 2 ^ lw * 2 ^ lh → lw ≤ mostLog2 → lh ≤ mostLog2 → n ≤ 1024
 at-most-1024 n lw lh e hw hh = omega (arith, pow-add 2 lw lh, pow-mono {i = lw + lh} {j = 10} (omega arith))
 
 -- halves are rounded by one bit less
@@ -54,14 +58,14 @@ module _ (lw lh : ℕ) (t : lw + lh ≡ 10) where
   half-less z h = half-bound z (32736 * 2 ^ 16) (subst (λ (s : ℕ). natAbs z ≤ 32736 * 2 ^ s) shift-17 h)
 
 -- a block of accepted residuals
-module _ (lw lh : ℕ) (hw : lw ≤ 5) (hh : lh ≤ 5) (r : List ℤ) (lr : length r ≡ 2 ^ lw * 2 ^ lh)
+module _ (lw lh : ℕ) (hw : lw ≤ mostLog2) (hh : lh ≤ mostLog2) (r : List ℤ) (lr : length r ≡ 2 ^ lw * 2 ^ lh)
     (small : (i : ℕ) → i < length r → natAbs (at r i) ≤ 1023) where
   row-small : (y x : ℕ) → y < 2 ^ lh → x < 2 ^ lw → natAbs (at r (y * 2 ^ lw + x)) ≤ 1023
   row-small y x hy hx =
       small (y * 2 ^ lw + x) (omega (arith, inside (2 ^ lw) y x hx (2 ^ lh) hy, mul-comm (2 ^ lw) (2 ^ lh)))
 
   -- the sums of the first stage, which isn't rounded
-  pub first-stage-bound : (y u : ℕ) → y < 2 ^ lh → u < 2 ^ lw → natAbs (stageAt (2 ^ lw) r y u) ≤ 65472 * 2 ^ lw
+  pub first-stage-bound : (y u : ℕ) → y < 2 ^ lh → u < 2 ^ lw → natAbs (stageAt matrix (2 ^ lw) r y u) ≤ 65472 * 2 ^ lw
   unfolding stageAt
   first-stage-bound y u hy hu =
       omega (
@@ -81,11 +85,11 @@ module _ (lw lh : ℕ) (hw : lw ≤ 5) (hh : lh ≤ 5) (r : List ℤ) (lr : leng
           room = omega (arith, pow-mono {i = lw} {j = 5} hw);
         }
 
-    pub widened-stage : (lines : ℕ) (b : List ℤ) → lines ≡ 2 ^ lh → Staged (λ z. z) lw lines a b lines
-        → Staged (λ z. z) lw (2 ^ lh) r b (2 ^ lh)
+    pub widened-stage : (lines : ℕ) (b : List ℤ) → lines ≡ 2 ^ lh → Staged matrix (λ z. z) lw lines a b lines
+        → Staged matrix (λ z. z) lw (2 ^ lh) r b (2 ^ lh)
     unfolding stageAt
     widened-stage lines b e sb y u hy hu =
-        subst (λ (h : ℕ). Staged (λ z. z) lw h a b h) e sb y u hy hu
+        subst (λ (h : ℕ). Staged matrix (λ z. z) lw h a b h) e sb y u hy hu
         ∙ sum-ext onℤ (2 ^ lw) (λ x. matrix (2 ^ lw) u x *ℤ at a (y * 2 ^ lw + x))
         (λ x. matrix (2 ^ lw) u x *ℤ at r (y * 2 ^ lw + x))
         (λ x hx.
@@ -93,7 +97,7 @@ module _ (lw lh : ℕ) (hw : lw ≤ 5) (hh : lh ≤ 5) (r : List ℤ) (lr : leng
         (ea (y * 2 ^ lw + x) (omega (arith, inside (2 ^ lw) y x hx (2 ^ lh) hy, mul-comm (2 ^ lw) (2 ^ lh)))))
 
   -- b holds them, each line down its column
-  module _ (b : List ℤ) (sb : Staged (λ z. z) lw (2 ^ lh) r b (2 ^ lh)) where
+  module _ (b : List ℤ) (sb : Staged matrix (λ z. z) lw (2 ^ lh) r b (2 ^ lh)) where
     pub first-within : (i : ℕ) → i < 2 ^ lw * 2 ^ lh → natAbs (at b i) ≤ 65472 * 2 ^ lw
     first-within i hi =
         let u = i / 2 ^ lh in
@@ -104,7 +108,7 @@ module _ (lw lh : ℕ) (hw : lw ≤ 5) (hh : lh ≤ 5) (r : List ℤ) (lr : leng
         (subst (λ (z : ℤ). natAbs z ≤ 65472 * 2 ^ lw) (sym (sb y u hy hu)) (first-stage-bound y u hy hu))
 
     -- the second stage on them is the double sum
-    pub stages-are-product : (u v : ℕ) → u < 2 ^ lw → stageAt (2 ^ lh) b u v ≡ product r (2 ^ lw) (2 ^ lh) v u
+    pub stages-are-product : (u v : ℕ) → u < 2 ^ lw → stageAt matrix (2 ^ lh) b u v ≡ product r (2 ^ lw) (2 ^ lh) v u
     unfolding stageAt product
     stages-are-product u v hu =
         let w = 2 ^ lw in
@@ -118,7 +122,8 @@ module _ (lw lh : ℕ) (hw : lw ≤ 5) (hh : lh ≤ 5) (r : List ℤ) (lr : leng
         (λ x. (matrix h v y *ℤ matrix w u x) *ℤ at r (y * w + x))
         (λ x hx. sym (*-assoc (matrix h v y) (matrix w u x) (at r (y * w + x)))))
 
-    second-bound : (u v : ℕ) → u < 2 ^ lw → v < 2 ^ lh → natAbs (stageAt (2 ^ lh) b u v) ≤ 32736 * 2 ^ (7 + lw + lh)
+    second-bound : (u v : ℕ) → u < 2 ^ lw → v < 2 ^ lh
+        → natAbs (stageAt matrix (2 ^ lh) b u v) ≤ 32736 * 2 ^ (7 + lw + lh)
     unfolding stageAt
     second-bound u v hu hv =
         omega (
@@ -141,7 +146,7 @@ module _ (lw lh : ℕ) (hw : lw ≤ 5) (hh : lh ≤ 5) (r : List ℤ) (lr : leng
         }
 
     -- f of the sums of the second stage in a, each line down its column: what is left is to round
-    module _ (f : ℤ → ℤ) (a : List ℤ) (sa : Staged f lh (2 ^ lw) b a (2 ^ lw)) where
+    module _ (f : ℤ → ℤ) (a : List ℤ) (sa : Staged matrix f lh (2 ^ lw) b a (2 ^ lw)) where
       whole-at : (i : ℕ) → i < 2 ^ lw * 2 ^ lh → at a i ≡ f (product r (2 ^ lw) (2 ^ lh) (i / 2 ^ lw) (i % 2 ^ lw))
       whole-at i hi =
           let hi′ : i < 2 ^ lh * 2 ^ lw = omega (arith, mul-comm (2 ^ lw) (2 ^ lh)) in
@@ -182,15 +187,15 @@ module _ (lw lh : ℕ) (hw : lw ≤ 5) (hh : lh ≤ 5) (r : List ℤ) (lr : leng
 
   -- accepted residuals give coefficients of magnitude at most 32736, which an i16 has room for
   firsts : List ℤ
-  firsts = listed (λ i. stageAt (2 ^ lw) r (i % 2 ^ lh) (i / 2 ^ lh)) 0 (2 ^ lw * 2 ^ lh)
+  firsts = listed (λ i. stageAt matrix (2 ^ lw) r (i % 2 ^ lh) (i / 2 ^ lh)) 0 (2 ^ lw * 2 ^ lh)
 
-  firsts-staged : Staged (λ z. z) lw (2 ^ lh) r firsts (2 ^ lh)
+  firsts-staged : Staged matrix (λ z. z) lw (2 ^ lh) r firsts (2 ^ lh)
   unfolding firsts
   firsts-staged y u hy hu =
-      listed-at (pos 0) (λ i. stageAt (2 ^ lw) r (i % 2 ^ lh) (i / 2 ^ lh)) (2 ^ lw * 2 ^ lh) (u * 2 ^ lh + y)
+      listed-at (pos 0) (λ i. stageAt matrix (2 ^ lw) r (i % 2 ^ lh) (i / 2 ^ lh)) (2 ^ lw * 2 ^ lh) (u * 2 ^ lh + y)
       (inside (2 ^ lh) u y hy (2 ^ lw) hu)
-      ∙ ap (λ (n : ℕ). stageAt (2 ^ lw) r n ((u * 2 ^ lh + y) / 2 ^ lh)) (column-of (2 ^ lh) u y hy)
-      ∙ ap (λ (n : ℕ). stageAt (2 ^ lw) r y n) (row-of (2 ^ lh) u y hy)
+      ∙ ap (λ (n : ℕ). stageAt matrix (2 ^ lw) r n ((u * 2 ^ lh + y) / 2 ^ lh)) (column-of (2 ^ lh) u y hy)
+      ∙ ap (λ (n : ℕ). stageAt matrix (2 ^ lw) r y n) (row-of (2 ^ lh) u y hy)
 
   pub coefficient-bound : (v u : ℕ) → v < 2 ^ lh → u < 2 ^ lw → natAbs (coefficient r lw lh v u) ≤ 32736
   unfolding coefficient

@@ -7,8 +7,9 @@ use lib.ListN.{length, take, drop}
 use lib.IntN.{ℤ, natAbs}
 use Rattle.integers.specs.Tests.{some}
 use Rattle.refusals.specs.declared.Refusal.the-variants.{Side, Length, Sample}
+use Rattle.refusals.specs.Sides.{mostLog2}
 use Rattle.refusals.specs.Numbers.{numberOf}
-use Rattle.refusals.specs.Faults.{Fault, ofNone, outside, Verdict, accepted, refused, verdict, ifAccepted}
+use Rattle.refusals.specs.Faults.{Fault, ofNone, outside, Outcome, refused, passed, verdict, ifAccepted}
 use Rattle.transform.specs.declared.TransAnswer.{TransAnswer}
 use Rattle.transform.specs.declared.TransAnswer.the-variants.{Accepted, Refused}
 use Rattle.transform.specs.Coefficients.{coefficients}
@@ -30,7 +31,12 @@ abbrev pub wild : ℤ → Bool
 wild z = ltb 1023 (natAbs z)
 
 unfoldable pub sideFault : Fault Trans
-sideFault = record { refusal = Side; component = ofNone; holds = λ t. outside 1 5 (t .lw) || outside 1 5 (t .lh) }
+sideFault =
+    record {
+      refusal = Side;
+      component = ofNone;
+      holds = λ t. outside 1 mostLog2 (t .lw) || outside 1 mostLog2 (t .lh);
+    }
 
 unfoldable pub lengthFault : Fault Trans
 unfolding places
@@ -44,14 +50,14 @@ unfoldable pub transFaults : List (Fault Trans)
 unfolding sideFault lengthFault sampleFault
 transFaults = sideFault ∷ lengthFault ∷ sampleFault ∷ []
 
--- the answer, and the paper's numbers of an answer
-unfoldable pub transVerdict : Trans → Verdict
+-- the answer, which is the verdict, and what code answers by the paper's numbers
+unfoldable pub transVerdict : Trans → Outcome Unit
 unfolding transFaults verdict
 transVerdict t = verdict transFaults t
 
-abbrev pub paperOf : TransAnswer → Verdict
-paperOf Accepted = accepted
-paperOf (Refused why) = refused (numberOf why) 0
+abbrev pub transOutcome : TransAnswer → Outcome Unit
+transOutcome Accepted = passed
+transOutcome (Refused why) = refused (numberOf why) 0
 
 -- an accepted buffer holds the coefficients in front, and its surplus; a refused one what it held
 unfoldable pub transformed : Trans → List ℤ

@@ -1,48 +1,19 @@
 // The whole block, its samples known to be in range: both stages, and the rounding behind them.
-use crate::stage::stage;
-use crate::wide::half_stage;
+use halves::half_stage;
+use rounding::settle;
+use rounding::widen;
+use stages::stage;
 ghost use mathlib.Core.Path.{_≡_};
 ghost use Prim.Native.Nat.{ℕ, _*_, _^_, _<_, _≤_};
 ghost use lib.ListN.{length};
 ghost use lib.IntN.{natAbs};
 ghost use Rattle.integers.specs.Sum.{at};
-ghost use Rattle.integers.specs.Floor.{rounded};
+ghost use Rattle.refusals.specs.Sides.{mostLog2};
 ghost use Rattle.transform.specs.Coefficients.{coefficients};
-
-fn widen(block: &[i16], wide: &mut [i32])
-    requires { ⌜ length (now wide) ≡ length (now block) ⌝ }
-    ensures { λ _. ⌜ ((i : ℕ) → i < length (now (block .entry))
-        → at (now (wide .exit)) i ≡ at (now (block .entry)) i) ⌝ }
-{
-    let n = block.len();
-    let mut i: usize = 0;
-    while i < n {
-        let v = block[i] as i32;
-        wide[i] = v;
-        i += 1;
-    }
-}
-
-// The sums shifted right, a half of the last unit added first.
-fn settle(sums: &[i32], shift: u32, block: &mut [i16])
-    requires { ⌜ (length (now block) ≡ length (now sums)) × (1 ≤ shift) × (shift ≤ 16) ⌝ }
-    requires { ⌜ ((i : ℕ) → i < length (now sums) → natAbs (at (now sums) i) ≤ 32736 * 2 ^ shift) ⌝ }
-    ensures { λ _. ⌜ ((i : ℕ) → i < length (now (sums .entry))
-        → at (now (block .exit)) i ≡ rounded (at (now (sums .entry)) i) shift) ⌝ }
-{
-    let half = 1i32 << (shift - 1);
-    let n = sums.len();
-    let mut i: usize = 0;
-    while i < n {
-        let z = sums[i];
-        block[i] = ((z + half) >> shift) as i16;
-        i += 1;
-    }
-}
 
 // By cases, so that the compiler knows how large it can be.
 pub fn side(log2: usize) -> usize
-    requires { ⌜ (1 ≤ log2) × (log2 ≤ 5) ⌝ }
+    requires { ⌜ (1 ≤ log2) × (log2 ≤ mostLog2) ⌝ }
     ensures { λ r. ⌜ (r ≡ 2 ^ log2) × (r ≤ 32) ⌝ }
 {
     if log2 == 1 {
@@ -61,7 +32,7 @@ pub fn side(log2: usize) -> usize
 }
 
 fn both_stages(block: &mut [i16], a: &mut [i32], b: &mut [i32], lw: usize, lh: usize)
-    requires { ⌜ (1 ≤ lw) × (lw ≤ 5) × (1 ≤ lh) × (lh ≤ 5) ⌝ }
+    requires { ⌜ (1 ≤ lw) × (lw ≤ mostLog2) × (1 ≤ lh) × (lh ≤ mostLog2) ⌝ }
     requires { ⌜ (length (now block) ≡ 2 ^ lw * 2 ^ lh) × (length (now a) ≡ length (now block))
         × (length (now b) ≡ length (now block)) ⌝ }
     requires { ⌜ ((i : ℕ) → i < length (now block) → natAbs (at (now block) i) ≤ 1023) ⌝ }
@@ -82,7 +53,7 @@ fn both_stages(block: &mut [i16], a: &mut [i32], b: &mut [i32], lw: usize, lh: u
 
 // The coefficients of the block in place of its residuals. What a small block works in is small.
 pub fn transform(block: &mut [i16], lw: usize, lh: usize)
-    requires { ⌜ (1 ≤ lw) × (lw ≤ 5) × (1 ≤ lh) × (lh ≤ 5) ⌝ }
+    requires { ⌜ (1 ≤ lw) × (lw ≤ mostLog2) × (1 ≤ lh) × (lh ≤ mostLog2) ⌝ }
     requires { ⌜ (length (now block) ≡ 2 ^ lw * 2 ^ lh)
         × ((i : ℕ) → i < length (now block) → natAbs (at (now block) i) ≤ 1023) ⌝ }
     ensures { λ _. ⌜ now (block .exit) ≡ coefficients (now (block .entry)) lw lh ⌝ }

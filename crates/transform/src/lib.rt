@@ -1,16 +1,14 @@
-// The forward transform of a block of residuals.
+// The forward transform of a block of residuals: both stages, and the one rounding behind them. Its contracts speak of
+// the double sum over the block, never of stages, and of what is refused and in which order.
 use block::side;
 use block::transform;
 use refusals::Refusal;
 use refusals::no_side;
 ghost use mathlib.Core.Path.{_≡_};
 ghost use Rattle.integers.specs.Tests.{some};
-ghost use Rattle.transform.specs.Call.{called, paperOf, transBuffer, transVerdict, wild};
+ghost use Rattle.transform.specs.Call.{called, transOutcome, transBuffer, transVerdict, wild};
 
 mod block;
-mod butterfly;
-mod stage;
-mod wide;
 
 // An accepted transform answers only that it was accepted; a fault of it belongs to no component.
 pub enum TransAnswer {
@@ -35,7 +33,7 @@ pub fn has_wild(block: &[i16]) -> bool
 
 // The residuals of a block at the front of the buffer, by rows, become its coefficients.
 pub fn trans(block: &mut [i16], log2_w: usize, log2_h: usize) -> TransAnswer
-    ensures answer { λ r. ⌜ paperOf r ≡ transVerdict (called (now (block .entry)) «log2_w» «log2_h») ⌝ }
+    ensures answer { λ r. ⌜ transOutcome r ≡ transVerdict (called (now (block .entry)) «log2_w» «log2_h») ⌝ }
     ensures buffer { λ _. ⌜ now (block .exit) ≡ transBuffer (called (now (block .entry)) «log2_w» «log2_h») ⌝ }
 {
     if no_side(log2_w) {

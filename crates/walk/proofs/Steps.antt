@@ -16,26 +16,27 @@ use borrow.Author.Tests.{ltb-true, ltb-false, eqb-true, eqb-false, lt-ltb, le-lt
 use Rattle.integers.proofs.Order.{below-or-not}
 use Rattle.tables.specs.Scan.{scanAt}
 use Rattle.tables.proofs.OneToOne.{scan-inside, scan-apart}
-use Rattle.price.specs.Level.{magnitude, distortion}
+use Rattle.price.specs.Level.{nearest, distortion}
 use Rattle.price.specs.Rule.{Rule, Allowed, isZero}
-use Rattle.price.specs.Price.{uncoded, nonzeros}
-use Rattle.price.specs.Walk.{walked, cutAt}
-use Rattle.price.specs.OnePass.{Totals, step, walk}
+use Rattle.price.specs.Price.{uncoded, nonzeros, price}
+use Rattle.price.specs.Walk.{walked, cutAt, cutOf, written}
+use Rattle.price.specs.Inner.OnePass.{Totals, startWith, step, walk}
 use Rattle.price.proofs.Choice.{length-walked, walked-cheapest}
-use Rattle.price.proofs.OnePass.{one-pass-level}
+use Rattle.price.proofs.OnePass.{one-pass-level, one-pass-cut-with, one-pass-price-with}
 use Rattle.price.proofs.Bounds.{walk-within}
 use Rattle.price.proofs.Tail.{Quiet, quiet-walk, walk-parts}
-use Rattle.rule.specs.declared.scale.Scale.{Scale}
-use Rattle.rule.specs.declared.prices.Prices.{Prices}
+use Rattle.weights.specs.declared.scale.Scale.{Scale}
+use Rattle.weights.specs.declared.prices.Prices.{Prices}
 use Rattle.walk.specs.declared.Walk.{Walk}
 use Rattle.walk.specs.declared.Walked.{Walked}
-use Rattle.rule.specs.Prices.{ruleBy, rateBy}
-use Rattle.rule.specs.Places.{keptAt, keptFrom, keptPlaces, Scanned, Standing, Cleared}
-use Rattle.walk.specs.Walking.{totalsOf, passed, Ready, Begins, WalkedOver, CutBehind, CutOver}
+use Rattle.weights.specs.Inner.Prices.{ruleBy, rateBy}
+use Rattle.weights.specs.Inner.Places.{keptAt, keptFrom, keptPlaces, Scanned, Standing, Cleared}
+use Rattle.weights.specs.Inner.Choosing.{ChosenBy}
+use Rattle.walk.specs.Inner.Walking.{totalsOf, passed, Ready, firstTotals, Begins, WalkedOver, CutBehind}
 use Rattle.price.proofs.Counting.{ones, one-more, none-more}
 use Rattle.walk.proofs.Weighing.{quiet}
-use Rattle.rule.proofs.Filling.{Filled, filled-none, filled-zero, filled-next, filled-all}
-use Rattle.rule.proofs.Places.{places-count, place-at, nothing-there, kept-in-all, kept-next, kept-inside, none-kept}
+use Rattle.weights.proofs.Filling.{Filled, filled-none, filled-zero, filled-next, filled-all}
+use Rattle.weights.proofs.Places.{places-count, place-at, nothing-there, kept-in-all, kept-next, kept-inside, none-kept}
 
 -- one place more
 walk-next : (r : Rule) (m : ℕ) (w : Totals) (ps : List ℕ) (i : ℕ) → i < length ps
@@ -56,13 +57,13 @@ uncoded-first : (r : Rule) (ps : List ℕ) (i : ℕ) → i < length ps → r .di
 unfolding uncoded
 uncoded-first r ps i h = rw (drop-cons ps i 0 h) (omega arith)
 
-module _ (p : Prices) (g : Scale) (w₀ : Walk) (side : ℕ) (kept held : List ℕ) (sc : Scanned side held)
-    (b : Begins p g w₀ side kept) where
+module _ (p : Prices) (g : Scale) (w₀ : Walk) (width height : ℕ) (kept held : List ℕ) (sc : Scanned width height held)
+    (b : Begins p g w₀ width height kept) where
   abbrev r : Rule
   r = ruleBy p g
 
   abbrev ps : List ℕ
-  ps = keptPlaces g side kept
+  ps = keptPlaces g width height kept
 
   abbrev ls : List ℕ
   ls = walked r (isZero (w₀ .prev)) ps
@@ -70,12 +71,12 @@ module _ (p : Prices) (g : Scale) (w₀ : Walk) (side : ℕ) (kept held : List �
   abbrev total : ℕ → Totals
   total n = walk r 0 (totalsOf w₀) (take n ps)
 
-  next : (n : ℕ) → n < side * side → total (n + 1) ≡ step r n (total n) (keptAt side kept n * g .q)
+  next : (n : ℕ) → n < width * height → total (n + 1) ≡ step r n (total n) (keptAt width height kept n * g .q)
   next n h =
       ap (λ (k : ℕ). total k) (add-one n)
-      ∙ walk-next r 0 (totalsOf w₀) ps n (omega (arith, places-count side held sc g kept))
+      ∙ walk-next r 0 (totalsOf w₀) ps n (omega (arith, places-count width height held sc g kept))
       ∙ ap (λ (k : ℕ). step r k (total n) (getD ps n 0)) (omega arith)
-      ∙ ap (step r n (total n)) (place-at side held sc g kept n h)
+      ∙ ap (step r n (total n)) (place-at width height held sc g kept n h)
 
   free : (z : Bool) → r .rate z 0 ≤ 2 ^ 48
   unfolding ruleBy rateBy
@@ -86,7 +87,7 @@ module _ (p : Prices) (g : Scale) (w₀ : Walk) (side : ℕ) (kept held : List �
   unfolding ruleBy
   more-small = b .weighable .modest .more
 
-  pub bounded : (n : ℕ) → n ≤ side * side → (total n) .base ≤ 2 ^ 62
+  pub bounded : (n : ℕ) → n ≤ width * height → (total n) .base ≤ 2 ^ 62
   bounded n h =
       let x = walk-within r (2 ^ 48) free 0 (totalsOf w₀) ps n (b .left) .1 in
       let y : n * (2 ^ 48 + r .more) ≤ 4096 * (2 ^ 48 + 2 ^ 48) =
@@ -98,43 +99,44 @@ module _ (p : Prices) (g : Scale) (w₀ : Walk) (side : ℕ) (kept held : List �
   unfolding ruleBy
   by-dist L = refl
 
-  enough : (n : ℕ) → n < side * side → distortion (g .shift) (g .error) (keptAt side kept n * g .q) 0 ≤ (total n) .base
+  enough : (n : ℕ) → n < width * height
+      → distortion (g .shift) (g .error) (keptAt width height kept n * g .q) 0 ≤ (total n) .base
   enough n h =
       let x = walk-within r (2 ^ 48) free 0 (totalsOf w₀) ps n (b .left) .0 in
-      let y = uncoded-first r ps n (omega (arith, places-count side held sc g kept)) in
+      let y = uncoded-first r ps n (omega (arith, places-count width height held sc g kept)) in
       omega (
         arith,
         by-dist (getD ps n 0),
         ap (λ (L : ℕ). distortion (g .shift) (g .error) L 0)
-            (place-at side held sc g kept n h),
+            (place-at width height held sc g kept n h),
       )
 
-  level-at : (n : ℕ) → n < side * side → (total (n + 1)) .prev ≡ getD ls n 0
+  level-at : (n : ℕ) → n < width * height → (total (n + 1)) .prev ≡ getD ls n 0
   level-at n h =
       ap (λ (k : ℕ). (total k) .prev) (add-one n)
-      ∙ one-pass-level r 0 (totalsOf w₀) ps n (omega (arith, places-count side held sc g kept))
+      ∙ one-pass-level r 0 (totalsOf w₀) ps n (omega (arith, places-count width height held sc g kept))
 
-  level-below : (n : ℕ) → n < side * side → getD ls n 0 ≤ magnitude (g .shift) (keptAt side kept n * g .q)
+  level-below : (n : ℕ) → n < width * height → getD ls n 0 ≤ nearest (g .shift) (keptAt width height kept n * g .q)
   unfolding ruleBy
   level-below n h =
       let a = allowed-below _ _
-      (walked-cheapest r (isZero (w₀ .prev)) ps n (omega (arith, places-count side held sc g kept)) .allowed) in
-      omega (arith, ap (magnitude (g .shift)) (place-at side held sc g kept n h))
+      (walked-cheapest r (isZero (w₀ .prev)) ps n (omega (arith, places-count width height held sc g kept)) .allowed) in
+      omega (arith, ap (nearest (g .shift)) (place-at width height held sc g kept n h))
 
-  level-small : (n : ℕ) → n < side * side → getD ls n 0 ≤ 32767
-  level-small n h = omega (arith, level-below n h, b .weighable .fine (scanAt side side n) .level)
+  level-small : (n : ℕ) → n < width * height → getD ls n 0 ≤ 32767
+  level-small n h = omega (arith, level-below n h, b .weighable .fine (scanAt width height n) .level)
 
   -- the loop before place n, with `left` places to step at
   pub record Walking (levels : List ℕ) (w : Walk) (end left n : ℕ) : Type 0 where
-    pub place : n ≤ side * side
-    pub room : length levels ≡ side * side
+    pub place : n ≤ width * height
+    pub room : length levels ≡ width * height
     pub same : totalsOf w ≡ total n
-    pub standing : Filled side n levels ls
+    pub standing : Filled width height n levels ls
     pub ended : end ≤ n
     pub tail : (k : ℕ) → end ≤ k → k < n → getD ls k 0 ≡ 0
-    pub rest : left ≡ keptFrom side kept n
+    pub rest : left ≡ keptFrom width height kept n
 
-  pub begun : (levels : List ℕ) (left : ℕ) → length levels ≡ side * side → Cleared levels → left ≡ nonzeros kept
+  pub begun : (levels : List ℕ) (left : ℕ) → length levels ≡ width * height → Cleared levels → left ≡ nonzeros kept
       → Walking levels w₀ 0 left 0
   unfolding walk
   begun levels left e z q =
@@ -142,27 +144,29 @@ module _ (p : Prices) (g : Scale) (w₀ : Walk) (side : ℕ) (kept held : List �
         place = omega arith;
         room = e;
         same = refl;
-        standing = filled-none side levels ls z;
+        standing = filled-none width height levels ls z;
         ended = omega arith;
         tail = λ k l h. absurd (not-suc-le-zero h);
-        rest = q ∙ kept-in-all side kept held sc (b .weighable .room);
+        rest = q ∙ kept-in-all width height kept held sc (b .weighable .room);
       }
 
-  -- while a place is left to step at, n lies inside side held sc the block
-  pub going : (levels : List ℕ) (w : Walk) (end left n : ℕ) → Walking levels w end left n → 0 < left → n < side * side
-  going levels w end left n i h = kept-inside side kept held sc n (omega (arith, i .rest))
+  -- while a place is left to step at, n lies inside the block
+  pub going : (levels : List ℕ) (w : Walk) (end left n : ℕ) → Walking levels w end left n → 0 < left
+      → n < width * height
+  going levels w end left n i h = kept-inside width height kept held sc n (omega (arith, i .rest))
 
-  module _ (levels : List ℕ) (w : Walk) (end left n : ℕ) (i : Walking levels w end left n) (h : n < side * side) where
+  module _ (levels : List ℕ) (w : Walk) (end left n : ℕ) (i : Walking levels w end left n)
+      (h : n < width * height) where
     pub base-small : w .base ≤ 2 ^ 62
     base-small = omega (arith, ap (λ (t : Totals). t .base) (i .same), bounded n (i .place))
 
-    pub ready : 1 ≤ keptAt side kept n → Ready p g w n (keptAt side kept n * g .q)
+    pub ready : 1 ≤ keptAt width height kept n → Ready p g w n (keptAt width height kept n * g .q)
     ready o =
         record {
           modest = b .weighable .modest;
           sound = b .weighable .sound;
-          fine = b .weighable .fine (scanAt side side n);
-          some = b .weighable .some (scanAt side side n) o;
+          fine = b .weighable .fine (scanAt width height n);
+          some = b .weighable .some (scanAt width height n) o;
           left = omega (arith, ap (λ (t : Totals). t .base) (i .same), enough n h);
           base = base-small;
           place = omega (arith, sc .few);
@@ -173,33 +177,33 @@ module _ (p : Prices) (g : Scale) (w₀ : Walk) (side : ℕ) (kept held : List �
         ⊎-elim (λ (e : k ≡ n). subst P (sym e) new) (λ (q : k < n). old k q)
         (eq-or-lt-of-le (le-of-suc-le-suc (subst (λ (m : ℕ). k < m) (add-one n) l)))
 
-    rest-next : left ≡ ones (keptAt side kept n) + keptFrom side kept (n + 1)
-    rest-next = i .rest ∙ kept-next side kept held sc n h
+    rest-next : left ≡ ones (keptAt width height kept n) + keptFrom width height kept (n + 1)
+    rest-next = i .rest ∙ kept-next width height kept held sc n h
 
-    pub passes : (v : Walk) → keptAt side kept n ≡ 0 → totalsOf v ≡ passed p (totalsOf w)
+    pub passes : (v : Walk) → keptAt width height kept n ≡ 0 → totalsOf v ≡ passed p (totalsOf w)
         → Walking levels v end left (n + 1)
     passes v e q =
         let s : totalsOf v ≡ total (n + 1) =
         q ∙ ap (passed p) (i .same)
         ∙ sym (next n h
-        ∙ quiet p g n (total n) (keptAt side kept n * g .q)
-        (nothing-there g (b .weighable .sound) (keptAt side kept n) e) (enough n h)) in
+        ∙ quiet p g n (total n) (keptAt width height kept n * g .q)
+        (nothing-there g (b .weighable .sound) (keptAt width height kept n) e) (enough n h)) in
         let l : getD ls n 0 ≡ 0 = sym (level-at n h) ∙ sym (ap (λ (t : Totals). t .prev) s)
         ∙ ap (λ (t : Totals). t .prev) q in
         record {
           place = omega arith;
           room = i .room;
           same = s;
-          standing = filled-zero side levels ls n h l (i .standing);
+          standing = filled-zero width height levels ls n h l (i .standing);
           ended = omega (arith, i .ended);
           tail =
               λ k m lt. below-next (λ (k : ℕ). end ≤ k → getD ls k 0 ≡ 0) (λ j lt le. i .tail j le lt) (λ le. l) k lt m;
-          rest = omega (arith, rest-next, none-more (keptAt side kept n) e);
+          rest = omega (arith, rest-next, none-more (keptAt width height kept n) e);
         }
 
-    module _ (v : Walk) (q : totalsOf v ≡ step r n (totalsOf w) (keptAt side kept n * g .q)) where
+    module _ (v : Walk) (q : totalsOf v ≡ step r n (totalsOf w) (keptAt width height kept n * g .q)) where
       stepped : totalsOf v ≡ total (n + 1)
-      stepped = q ∙ ap (λ (t : Totals). step r n t (keptAt side kept n * g .q)) (i .same) ∙ sym (next n h)
+      stepped = q ∙ ap (λ (t : Totals). step r n t (keptAt width height kept n * g .q)) (i .same) ∙ sym (next n h)
 
       taken : v .prev ≡ getD ls n 0
       taken = ap (λ (t : Totals). t .prev) stepped ∙ level-at n h
@@ -207,17 +211,17 @@ module _ (p : Prices) (g : Scale) (w₀ : Walk) (side : ℕ) (kept held : List �
       pub taken-small : v .prev ≤ 32767
       taken-small = omega (arith, taken, level-small n h)
 
-      pub steps : (e : ℕ) → e ≡ cond (isZero (v .prev)) end (n + 1) → (keptAt side kept n ≡ 0 → ⊥)
-          → Walking (set levels (scanAt side side n) (v .prev)) v e (left - 1) (n + 1)
+      pub steps : (e : ℕ) → e ≡ cond (isZero (v .prev)) end (n + 1) → (keptAt width height kept n ≡ 0 → ⊥)
+          → Walking (set levels (scanAt width height n) (v .prev)) v e (left - 1) (n + 1)
       steps e f some =
           record {
             place = omega arith;
-            room = length-set levels (scanAt side side n) (v .prev) ∙ i .room;
+            room = length-set levels (scanAt width height n) (v .prev) ∙ i .room;
             same = stepped;
-            standing = filled-next side levels ls n h held sc (i .room) (v .prev) (sym taken) (i .standing);
+            standing = filled-next width height levels ls n h held sc (i .room) (v .prev) (sym taken) (i .standing);
             ended = ended-by (v .prev) f;
             tail = tail-by (v .prev) f taken;
-            rest = omega (arith, rest-next, one-more (keptAt side kept n) some);
+            rest = omega (arith, rest-next, one-more (keptAt width height kept n) some);
           }
         where
           ended-by : (a : ℕ) → e ≡ cond (isZero a) end (n + 1) → e ≤ n + 1
@@ -231,43 +235,43 @@ module _ (p : Prices) (g : Scale) (w₀ : Walk) (side : ℕ) (kept held : List �
               (omega arith)
           tail-by (suc a) f t k m lt = absurd (let z : ⊥ = omega arith in z)
 
-  behind-none : (k : ℕ) → side * side ≤ k → getD ls k 0 ≡ 0
+  behind-none : (k : ℕ) → width * height ≤ k → getD ls k 0 ≡ 0
   behind-none k h =
       lib.ListN.List·getD-eq-default ls 0
-      (omega (arith, length-walked r (isZero (w₀ .prev)) ps, places-count side held sc g kept))
+      (omega (arith, length-walked r (isZero (w₀ .prev)) ps, places-count width height held sc g kept))
 
   -- no place is left to step at: nothing is kept from n on
   module _ (levels : List ℕ) (w : Walk) (end left n : ℕ) (i : Walking levels w end left n) (none : left ≡ 0) where
-    none-there : (k : ℕ) → n ≤ k → k < side * side → keptAt side kept k ≡ 0
-    none-there = none-kept side kept held sc n (sym (i .rest) ∙ none)
+    none-there : (k : ℕ) → n ≤ k → k < width * height → keptAt width height kept k ≡ 0
+    none-there = none-kept width height kept held sc n (sym (i .rest) ∙ none)
 
     none-walked : (k : ℕ) → n ≤ k → getD ls k 0 ≡ 0
     none-walked k m =
-        ⊎-elim (λ (lt : k < side * side). omega (
+        ⊎-elim (λ (lt : k < width * height). omega (
           arith,
           level-below k lt,
-          nothing-there g (b .weighable .sound) (keptAt side kept k) (none-there k m lt),
+          nothing-there g (b .weighable .sound) (keptAt width height kept k) (none-there k m lt),
         ))
-        (λ (le : side * side ≤ k). behind-none k le)
-        (below-or-not k (side * side))
+        (λ (le : width * height ≤ k). behind-none k le)
+        (below-or-not k (width * height))
 
     quiet-behind : Quiet r (drop n ps)
     unfolding ruleBy
     quiet-behind k h =
-        let lt : n + k < side * side = omega (arith, length-drop n ps, places-count side held sc g kept) in
-        ap (r .top) (getD-drop n ps k 0 ∙ place-at side held sc g kept (n + k) lt)
-        ∙ nothing-there g (b .weighable .sound) (keptAt side kept (n + k)) (none-there (n + k) (omega arith) lt)
+        let lt : n + k < width * height = omega (arith, length-drop n ps, places-count width height held sc g kept) in
+        ap (r .top) (getD-drop n ps k 0 ∙ place-at width height held sc g kept (n + k) lt)
+        ∙ nothing-there g (b .weighable .sound) (keptAt width height kept (n + k)) (none-there (n + k) (omega arith) lt)
 
     stopped : (walk r 0 (totalsOf w₀) ps .best ≡ total n .best) × (walk r 0 (totalsOf w₀) ps .cut ≡ total n .cut)
     stopped = rw (← walk-parts r 0 (totalsOf w₀) ps n) (quiet-walk r (0 + n) (total n) (drop n ps) quiet-behind)
 
-    pub walked-over : WalkedOver p g w₀ side kept levels (record { walk = w; end = end })
+    pub walked-over : WalkedOver p g w₀ width height kept levels (record { walk = w; end = end })
     walked-over =
         record {
           best = ap (λ (t : Totals). t .best) (i .same) ∙ sym (stopped .0);
           cut = ap (λ (t : Totals). t .cut) (i .same) ∙ sym (stopped .1);
           room = i .room;
-          levels = filled-all side levels ls n none-walked (i .standing);
+          levels = filled-all width height levels ls n none-walked (i .standing);
           within = omega (arith, i .ended, i .place);
           tail = λ k l. ⊎-elim (λ (q : k < n). i .tail k l q) (λ (q : n ≤ k). none-walked k q) (below-or-not k n);
         }
@@ -286,16 +290,16 @@ cut-at (suc c) (a ∷ ls) zero = rw (lt-ltb 0 (suc c) (omega arith))
 cut-at (suc c) (a ∷ ls) (suc k) =
     cut-at c ls k ∙ ap (λ (t : Bool). cond t (getD ls k 0) 0) (sym (leb·suc-suc (suc k) c))
 
-cut-levels : (side cut end : ℕ) (ls before after : List ℕ) → Standing side before ls
+cut-levels : (width height cut end : ℕ) (ls before after : List ℕ) → Standing width height before ls
     → ((k : ℕ) → end ≤ k → getD ls k 0 ≡ 0)
-    → CutBehind side cut end before after → Standing side after (cutAt cut ls)
-cut-levels side cut end ls before after s t c k h =
+    → CutBehind width height cut end before after → Standing width height after (cutAt cut ls)
+cut-levels width height cut end ls before after s t c k h =
     c .levels k h ∙ go ∙ sym (cut-at cut ls k)
   where
-    old : getD before (scanAt side side k) 0 ≡ getD ls k 0
+    old : getD before (scanAt width height k) 0 ≡ getD ls k 0
     old = s k h
 
-    go : cond (leb cut k && ltb k (max cut end)) 0 (getD before (scanAt side side k) 0)
+    go : cond (leb cut k && ltb k (max cut end)) 0 (getD before (scanAt width height k) 0)
         ≡ cond (ltb k cut) (getD ls k 0) 0
     go =
         ⊎-elim
@@ -307,37 +311,58 @@ cut-levels side cut end ls before after s t c k h =
         (below-or-not k (max cut end)))
         (below-or-not k cut)
 
-pub cut-over : (p : Prices) (g : Scale) (w₀ : Walk) (side : ℕ) (kept before after : List ℕ) (whole : Walked)
-    → WalkedOver p g w₀ side kept before whole → CutBehind side (whole .walk .cut) (whole .end) before after
-    → CutOver p g w₀ side kept after (whole .walk .best)
-cut-over p g w₀ side kept before after whole o c =
-    let ls = walked (ruleBy p g) (isZero (w₀ .prev)) (keptPlaces g side kept) in
-    record {
-      price = o .best;
-      room = c .room;
-      levels =
-          subst (λ (k : ℕ). Standing side after (cutAt k ls)) (o .cut)
-          (cut-levels side (whole .walk .cut) (whole .end) ls before after (o .levels) (o .tail) c);
-    }
+-- ---- the whole, from the first totals
+module _ (p : Prices) (g : Scale) (d width height : ℕ) (kept : List ℕ)
+    (left : uncoded (ruleBy p g) (keptPlaces g width height kept) ≤ d) where
+  abbrev whole : Totals
+  whole = walk (ruleBy p g) 0 (totalsOf (firstTotals p d)) (keptPlaces g width height kept)
+
+  from-start : whole ≡ walk (ruleBy p g) 0 (startWith (ruleBy p g) d) (keptPlaces g width height kept)
+  unfolding startWith ruleBy
+  from-start = refl
+
+  whole-cut : whole .cut ≡ cutOf (ruleBy p g) (keptPlaces g width height kept)
+  whole-cut =
+      ap (λ (t : Totals). t .cut) from-start ∙ one-pass-cut-with (ruleBy p g) (keptPlaces g width height kept) d left
+
+  whole-price : (let r = ruleBy p g in let ps = keptPlaces g width height kept in
+      whole .best + uncoded r ps ≡ d + price r (written r ps) ps)
+  whole-price =
+      ap (λ (t : Totals). t .best + uncoded (ruleBy p g) (keptPlaces g width height kept)) from-start
+      ∙ one-pass-price-with (ruleBy p g) (keptPlaces g width height kept) d left
+
+  pub chosen-by : (before after : List ℕ) (r : Walked) → WalkedOver p g (firstTotals p d) width height kept before r
+      → CutBehind width height (r .walk .cut) (r .end) before after
+      → ChosenBy written p g d width height kept after (r .walk .best)
+  unfolding written
+  chosen-by before after r o c =
+      let ls = walked (ruleBy p g) false (keptPlaces g width height kept) in
+      record {
+        room = c .room;
+        levels =
+            subst (λ (k : ℕ). Standing width height after (cutAt k ls)) (o .cut ∙ whole-cut)
+            (cut-levels width height (r .walk .cut) (r .end) ls before after (o .levels) (o .tail) c);
+        price = ap (λ (x : ℕ). x + uncoded (ruleBy p g) (keptPlaces g width height kept)) (o .best) ∙ whole-price;
+      }
 
 -- the loop that cuts: at n it has put 0 at the places from the cut to n
-module _ (side cut : ℕ) (held : List ℕ) (sc : Scanned side held) (before : List ℕ) where
-  pub cut-none : length before ≡ side * side → CutBehind side cut cut before before
+module _ (width height cut : ℕ) (held : List ℕ) (sc : Scanned width height held) (before : List ℕ) where
+  pub cut-none : length before ≡ width * height → CutBehind width height cut cut before before
   cut-none e = record { room = e; levels = λ k h. sym (none k (ltb k cut) refl) }
     where
       none : (k : ℕ) (t : Bool) → ltb k cut ≡ t
-          → cond (leb cut k && ltb k (max cut cut)) 0 (getD before (scanAt side side k) 0)
-          ≡ getD before (scanAt side side k) 0
+          → cond (leb cut k && ltb k (max cut cut)) 0 (getD before (scanAt width height k) 0)
+          ≡ getD before (scanAt width height k) 0
       none k true e = let q = ltb-true k cut e in rw (lt-leb cut k q)
       none k false e =
           let q = ltb-false k cut e in
           rw (le-leb cut k q, le-ltb k (max cut cut) (let m : max cut cut ≤ k = omega arith in m))
 
-  pub cut-more : (n : ℕ) (levels : List ℕ) → cut ≤ n → n < side * side → CutBehind side cut n before levels
-      → CutBehind side cut (n + 1) before (set levels (scanAt side side n) 0)
+  pub cut-more : (n : ℕ) (levels : List ℕ) → cut ≤ n → n < width * height → CutBehind width height cut n before levels
+      → CutBehind width height cut (n + 1) before (set levels (scanAt width height n) 0)
   cut-more n levels le lt c =
       record {
-        room = length-set levels (scanAt side side n) 0
+        room = length-set levels (scanAt width height n) 0
             ∙ c .room;
         levels = λ k h. ⊎-elim (here k h) (there k h) (same-or-not k n);
       }
@@ -349,15 +374,15 @@ module _ (side cut : ℕ) (held : List ℕ) (sc : Scanned side held) (before : L
           go true e = inl (eqb-true k n e)
           go false e = inr (eqb-false k n e)
 
-      here : (k : ℕ) → k < side * side → k ≡ n
-          → getD (set levels (scanAt side side n) 0) (scanAt side side k) 0
-          ≡ cond (leb cut k && ltb k (max cut (n + 1))) 0 (getD before (scanAt side side k) 0)
+      here : (k : ℕ) → k < width * height → k ≡ n
+          → getD (set levels (scanAt width height n) 0) (scanAt width height k) 0
+          ≡ cond (leb cut k && ltb k (max cut (n + 1))) 0 (getD before (scanAt width height k) 0)
       here k h e =
           let l : cut ≤ k = omega arith in
           let u : k < max cut (n + 1) = omega arith in
-          let i = scan-inside side side (sc .some) (sc .some) n (omega (arith, sc .full)) in
-          ap (λ (m : ℕ). getD (set levels (scanAt side side n) 0) (scanAt side side m) 0) e
-          ∙ getD-set-same levels (scanAt side side n) 0 0 (omega (arith, c .room))
+          let i = scan-inside width height (sc .wide) (sc .high) n (omega (arith, sc .full)) in
+          ap (λ (m : ℕ). getD (set levels (scanAt width height n) 0) (scanAt width height m) 0) e
+          ∙ getD-set-same levels (scanAt width height n) 0 0 (omega (arith, c .room))
           ∙ rw (le-leb cut k l, lt-ltb k (max cut (n + 1)) u)
 
       same-test : (k : ℕ) → k ≢ n → ltb k (max cut n) ≡ ltb k (max cut (n + 1))
@@ -373,22 +398,23 @@ module _ (side cut : ℕ) (held : List ℕ) (sc : Scanned side held) (before : L
               ⊎-elim (λ (e : n ≡ k). absurd (ne (sym e))) (λ (l : n < k). omega arith)
               (eq-or-lt-of-le (let m : n ≤ k = omega arith in m))
 
-      there : (k : ℕ) → k < side * side → k ≢ n
-          → getD (set levels (scanAt side side n) 0) (scanAt side side k) 0
-          ≡ cond (leb cut k && ltb k (max cut (n + 1))) 0 (getD before (scanAt side side k) 0)
+      there : (k : ℕ) → k < width * height → k ≢ n
+          → getD (set levels (scanAt width height n) 0) (scanAt width height k) 0
+          ≡ cond (leb cut k && ltb k (max cut (n + 1))) 0 (getD before (scanAt width height k) 0)
       there k h ne =
-          getD-set-other levels (scanAt side side n) (scanAt side side k) 0 0
-          (λ e. ne (scan-apart side side (sc .some) (sc .some) k n (omega (arith, sc .full)) (omega (arith, sc .full))
+          getD-set-other levels (scanAt width height n) (scanAt width height k) 0 0
+          (λ e. ne (scan-apart width height (sc .wide) (sc .high) k n (omega (arith, sc .full))
+          (omega (arith, sc .full))
           e))
           ∙ c .levels k h
-          ∙ ap (λ (t : Bool). cond (leb cut k && t) 0 (getD before (scanAt side side k) 0)) (same-test k ne)
+          ∙ ap (λ (t : Bool). cond (leb cut k && t) 0 (getD before (scanAt width height k) 0)) (same-test k ne)
 
-  pub cut-done : (n end : ℕ) (levels : List ℕ) → n ≡ max cut end → cut ≤ n → CutBehind side cut n before levels
-      → CutBehind side cut end before levels
+  pub cut-done : (n end : ℕ) (levels : List ℕ) → n ≡ max cut end → cut ≤ n → CutBehind width height cut n before levels
+      → CutBehind width height cut end before levels
   cut-done n end levels e le c =
       let q : max cut n ≡ max cut end = omega arith in
       record {
         room = c .room;
         levels = λ k h. c .levels k h
-            ∙ ap (λ (m : ℕ). cond (leb cut k && ltb k m) 0 (getD before (scanAt side side k) 0)) q;
+            ∙ ap (λ (m : ℕ). cond (leb cut k && ltb k m) 0 (getD before (scanAt width height k) 0)) q;
       }

@@ -8,18 +8,18 @@ use native.Mathlib.Omega.{arith}
 use native.Mathlib.Numerals.{add-one}
 use lib.Dec.{ltb, eqb}
 use borrow.Author.Tests.{ltb-true, ltb-false, lt-ltb, le-ltb, ne-eqb}
-use Rattle.price.specs.Level.{magnitude, distortion}
+use Rattle.price.specs.Level.{nearest, distortion}
 use Rattle.price.specs.Rule.{Rule, isZero, cost}
 use Rattle.price.specs.Walk.{cheaper, firstLeast, chosen}
-use Rattle.price.specs.OnePass.{Totals, advance, step}
+use Rattle.price.specs.Inner.OnePass.{Totals, advance, step}
 use Rattle.price.proofs.Tail.{quiet-chosen}
-use Rattle.rule.specs.declared.scale.Scale.{Scale}
-use Rattle.rule.specs.declared.prices.Prices.{Prices}
-use Rattle.rule.specs.declared.offers.Offer.{Offer}
-use Rattle.rule.specs.Prices.{ruleBy, rateBy, zeroPrice, headPrice}
-use Rattle.rule.specs.Offers.{bare, offered, Offered}
-use Rattle.rule.proofs.Offering.{by, same-offer, cost-by}
-use Rattle.walk.specs.Walking.{passed}
+use Rattle.weights.specs.declared.scale.Scale.{Scale}
+use Rattle.weights.specs.declared.prices.Prices.{Prices}
+use Rattle.weights.specs.declared.offers.Offer.{Offer}
+use Rattle.weights.specs.Inner.Prices.{ruleBy, rateBy, zeroPrice, headPrice}
+use Rattle.weights.specs.Inner.Offers.{bare, offered, Offered}
+use Rattle.weights.proofs.Offering.{by, same-offer, cost-by}
+use Rattle.walk.specs.Inner.Walking.{passed}
 
 -- ---- the choice
 other-way : (f : ℕ → ℕ) (m n : ℕ) → cheaper f (cheaper f 0 m) n ≡ cheaper f 0 (cheaper f m n)
@@ -58,15 +58,15 @@ one-of-three f g h e (suc (suc k)) p =
     rw (n, q) (other-way f m (suc k) ∙ ap (λ (v : ℕ). cheaper f 0 v) (same-offer f g h m (suc k) (e (suc k)) (e k)))
 
 module _ (p : Prices) (g : Scale) where
-  chosen-by : (z : Bool) (L : ℕ) → 1 ≤ magnitude (g .shift) L
+  chosen-by : (z : Bool) (L : ℕ) → 1 ≤ nearest (g .shift) L
       → chosen (ruleBy p g) z L ≡ cheaper (cost (ruleBy p g) z L) 0 (offered false p g L)
   unfolding chosen firstLeast ruleBy offered
   chosen-by z L h =
-      one-of-three (cost (ruleBy p g) z L) (bare p g L) (headPrice p z) (cost-by p g z L) (magnitude (g .shift) L) h
+      one-of-three (cost (ruleBy p g) z L) (bare p g L) (headPrice p z) (cost-by p g z L) (nearest (g .shift) L) h
 
 -- ---- the step
 module _ (p : Prices) (g : Scale) (n : ℕ) (w : Totals) (L : ℕ) where
-  pub quiet : magnitude (g .shift) L ≡ 0 → distortion (g .shift) (g .error) L 0 ≤ w .base
+  pub quiet : nearest (g .shift) L ≡ 0 → distortion (g .shift) (g .error) L 0 ≤ w .base
       → step (ruleBy p g) n w L ≡ passed p w
   unfolding step advance cost ruleBy rateBy
   quiet e h =
@@ -77,7 +77,7 @@ module _ (p : Prices) (g : Scale) (n : ℕ) (w : Totals) (L : ℕ) where
 
   module _ (v : Offer) (o : Offered false p g L v) (d zr hr c : ℕ) (hd : d ≡ distortion (g .shift) (g .error) L 0)
       (hz : zr ≡ zeroPrice p (isZero (w .prev))) (hh : hr ≡ headPrice p (isZero (w .prev))) (hc : c ≡ v .price + hr)
-      (top : 1 ≤ magnitude (g .shift) L) where
+      (top : 1 ≤ nearest (g .shift) L) where
     abbrev f : ℕ → ℕ
     f a = cost (ruleBy p g) (isZero (w .prev)) L a
 

@@ -1,23 +1,25 @@
 // The walk along the scan, and its cut. A place with m = 0 is passed; at another one offer, m or m - 1, is weighed
 // against 0. The block left and its price are the definition's (specs/Walk.antt of `price`).
-use rule::errors::squared_below;
-use rule::offers::make_offer;
-use rule::prices::Prices;
-use rule::scale::Scale;
 use tables::scan::block_place;
 use tables::scan::magnitude_at;
 use tables::scan::put_magnitude;
 use tables::scan::scan_place;
+use weights::errors::squared_below;
+use weights::offers::make_offer;
+use weights::prices::Prices;
+use weights::scale::Scale;
 ghost use mathlib.Core.Path.{_≡_};
 ghost use mathlib.Core.Bool.{cond};
 ghost use Prim.Native.Nat.{_≤_, _<_, _+_, _*_, _^_};
 ghost use lib.ListN.{length};
 ghost use Rattle.price.specs.Rule.{isZero};
 ghost use Rattle.price.specs.Price.{nonzeros};
-ghost use Rattle.price.specs.OnePass.{step};
-ghost use Rattle.rule.specs.Prices.{Modest, ruleBy};
-ghost use Rattle.rule.specs.Places.{Scanned, Cleared};
-ghost use Rattle.walk.specs.Walking.{Ready, Begins, WalkedOver, CutBehind, CutOver, totalsOf, passed};
+ghost use Rattle.price.specs.Inner.OnePass.{step};
+ghost use Rattle.weights.specs.Inner.Prices.{Modest, ruleBy};
+ghost use Rattle.price.specs.Walk.{written};
+ghost use Rattle.weights.specs.Inner.Places.{Scanned, Cleared};
+ghost use Rattle.weights.specs.Inner.Choosing.{Choosable, ChosenBy};
+ghost use Rattle.walk.specs.Inner.Walking.{Ready, Begins, WalkedOver, CutBehind, totalsOf, passed};
 
 // The running totals. base: the coded flag, what is walked with its flags, and the uncoded squares behind it; best and
 // cut: the least price of a cut so far, and how many places it keeps; prev: the level before.
@@ -99,64 +101,73 @@ fn walk_places(
     kept: &[u16],
     levels: &mut [u16],
     scan: &[u16],
-    side: usize,
+    w: usize,
+    h: usize,
     p: Prices,
     g: Scale,
     first: Walk,
     count: usize,
 ) -> Walked
-    requires { ⌜ Scanned side (now scan) × Begins p g first side (now kept) × (count ≡ nonzeros (now kept))
-        × (length (now levels) ≡ side * side) × Cleared (now levels) ⌝ }
-    ensures { λ r. ⌜ WalkedOver p g first side (now (kept .entry)) (now (levels .exit)) r ⌝ }
+    requires { ⌜ Scanned w h (now scan) × Begins p g first w h (now kept) × (count ≡ nonzeros (now kept))
+        × (length (now levels) ≡ w * h) × Cleared (now levels) ⌝ }
+    ensures { λ r. ⌜ WalkedOver p g first w h (now (kept .entry)) (now (levels .exit)) r ⌝ }
 {
-    let mut w = first;
+    let mut totals = first;
     let mut left = count;
     let mut end = 0;
     let mut n = 0;
     while 0 < left {
-        let place = block_place(scan, side, side, scan_place(n));
+        let place = block_place(scan, w, h, scan_place(n));
         let a = magnitude_at(kept, place);
         if a == 0 {
-            w = w.pass(p);
+            totals = totals.pass(p);
         } else {
-            w = w.step(n, p, g, a as u64 * g.q as u64);
-            put_magnitude(levels, place, w.prev as u16);
-            end = end_with(w.prev, n, end);
+            totals = totals.step(n, p, g, a as u64 * g.q as u64);
+            put_magnitude(levels, place, totals.prev as u16);
+            end = end_with(totals.prev, n, end);
             left -= 1;
         }
         n += 1;
     }
-    Walked { walk: w, end }
+    Walked { walk: totals, end }
 }
 
 // 0 at the places from `cut` to `end`.
-fn cut_behind(levels: &mut [u16], scan: &[u16], side: usize, cut: usize, end: usize)
-    requires { ⌜ Scanned side (now scan) × (length (now levels) ≡ side * side) × (end ≤ side * side) ⌝ }
-    ensures { λ _. ⌜ CutBehind side cut end (now (levels .entry)) (now (levels .exit)) ⌝ }
+fn cut_behind(levels: &mut [u16], scan: &[u16], w: usize, h: usize, cut: usize, end: usize)
+    requires { ⌜ Scanned w h (now scan) × (length (now levels) ≡ w * h) × (end ≤ w * h) ⌝ }
+    ensures { λ _. ⌜ CutBehind w h cut end (now (levels .entry)) (now (levels .exit)) ⌝ }
 {
     let mut n = cut;
     while n < end {
-        put_magnitude(levels, block_place(scan, side, side, scan_place(n)), 0);
+        put_magnitude(levels, block_place(scan, w, h, scan_place(n)), 0);
         n += 1;
     }
 }
 
+// Magnitudes are kept by rows, and so are the levels, which are 0 before; `count` are kept, and the block's D is d. The
+// first place counts as after a nonzero level.
 pub fn choose_levels(
     kept: &[u16],
     levels: &mut [u16],
     scan: &[u16],
-    side: usize,
+    w: usize,
+    h: usize,
     p: Prices,
     g: Scale,
-    first: Walk,
+    d: u64,
     count: usize,
 ) -> u64
-    requires { ⌜ Scanned side (now scan) × Begins p g first side (now kept) × (count ≡ nonzeros (now kept))
-        × (length (now levels) ≡ side * side) × Cleared (now levels) ⌝ }
-    ensures { λ r. ⌜ CutOver p g first side (now (kept .entry)) (now (levels .exit)) r ⌝ }
+    requires { ⌜ Choosable p g d w h (now kept) (now scan) (now levels) count ⌝ }
+    ensures { λ r. ⌜ ChosenBy written p g d w h (now (kept .entry)) (now (levels .exit)) r ⌝ }
 {
-    let walked = walk_places(kept, levels, scan, side, p, g, first, count);
-    let w = walked.walk;
-    cut_behind(levels, scan, side, w.cut, walked.end);
-    w.best
+    let first = Walk {
+        base: d + p.coded,
+        best: d + p.empty,
+        cut: 0,
+        prev: 1,
+    };
+    let walked = walk_places(kept, levels, scan, w, h, p, g, first, count);
+    let totals = walked.walk;
+    cut_behind(levels, scan, w, h, totals.cut, walked.end);
+    totals.best
 }

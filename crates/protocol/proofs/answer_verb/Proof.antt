@@ -38,35 +38,37 @@ put-malformed-requires-2 c κs = search needs
 returns-2 : tie.Need-returns-2
 returns-2 c = search needs
 
+-- how the number of samples was come to: its word was read, behind the fields, which were read first
+abbrev counted : tie.After-n → tie.After-read-count
+counted c = c .before .before
+
+abbrev placed : tie.After-n → tie.After-count
+placed c = counted c .before .before
+
+abbrev headed : tie.After-n → tie.After-read-head
+headed c = placed c .before .before
+
+abbrev start : tie.After-read-head → tie.Start
+start c = c .before .before .before
+
 slice-relend-prefix-answer-call : tie.Need-slice-relend-prefix-answer-call
 slice-relend-prefix-answer-call c =
-    omega (
-      arith,
-      c .before .before .before .before .before .before .before .before .before .before .pre,
-      c .before .before .before .read-count .ensures _ _ (c .before .n .given .1),
-    )
+    let n = c .before in
+    omega (arith, start (headed n) .pre, counted n .read-count .ensures _ _ (n .n .given .1))
 
 slice-aggregate-answer-call : tie.Need-slice-aggregate-answer-call
 slice-aggregate-answer-call c =
-    sym (length-take-le _ _
-    (omega (
-      arith,
-      c .before .before .before .before .before .before .before .before .before .before .before .pre,
-      c .before .before .before .before .read-count .ensures _ _ (c .before .before .n .given .1),
-    )))
+    let n = c .before .before in
+    sym
+    (length-take-le _ _ (omega (arith, start (headed n) .pre, counted n .read-count .ensures _ _ (n .n .given .1))))
 
 answer-call-requires : tie.Need-answer-call-requires
-answer-call-requires c κs = (
-  simp length-take
-      (omega (
-        arith,
-        c .before .before .before .before .before .before .read-count .ensures _ _
-            (c .before .before .before .before .n .given .1),
-      )),
-  c .before .before .before .before .before .before .before
-      .before .before .before .read-head .ensures _
-      (c .before .before .before .before .before .before .before .before .count .given .1),
-)
+answer-call-requires c κs =
+    let lent = c .before .before in
+    let n = lent .before .before in (
+      simp length-take (omega (arith, counted n .read-count .ensures _ _ (n .n .given .1))),
+      headed n .read-head .ensures _ (placed n .count .given .1),
+    )
 
 same-length : tie.Need-same-length
 same-length c = search needs

@@ -3,8 +3,8 @@
 use mathlib.Core.Path.{subst}
 use borrow.Author.Needs.{needs}
 use lib.Dec.{lit<}
-use Rattle.protocol.specs.declared.verb.Verb.{Verb}
-use Rattle.protocol.specs.Request.{kindsOf, Limited}
+use Rattle.verbs.specs.declared.Verb.{Verb}
+use Rattle.requests.specs.Request.{kindsOf, Limited}
 use Rattle.protocol.proofs.call.Statement.{statement}
 use Rattle.protocol.proofs.call.Tie as tie
 
@@ -26,12 +26,15 @@ of-transform-requires c κs = search needs
 enum-known-verb : tie.Need-enum-known-verb
 enum-known-verb c = search needs
 
-quantise-by-requires : tie.Need-quantise-by-requires
-quantise-by-requires c κs =
-    let s = c .before .before .before .before in
-    let of = subst (λ (v : Verb). Limited (kindsOf v) (s .args .fields .now)) (c .before .before .verb .given .1)
-    (s .pre) in
+coding-of-requires : tie.Need-coding-of-requires
+coding-of-requires c κs =
+    let arm = c .before .before in
+    let s = arm .before .before in
+    let of = subst (λ (v : Verb). Limited (kindsOf v) (s .args .fields .now)) (arm .verb .given .1) (s .pre) in
     of 2 (lit< tt)
+
+quant-nnz-requires : tie.Need-quant-nnz-requires
+quant-nnz-requires c κs = search needs
 
 of-quantise-requires : tie.Need-of-quantise-requires
 of-quantise-requires c κs = search needs
@@ -41,9 +44,9 @@ enum-known-verb-2 c = search needs
 
 request-of-requires : tie.Need-request-of-requires
 request-of-requires c κs =
-    let s = c .before .before .before .before in
-    let of = subst (λ (v : Verb). Limited (kindsOf v) (s .args .fields .now)) (c .before .before .verb2 .given .1)
-    (s .pre) in
+    let arm = c .before .before in
+    let s = arm .before .before in
+    let of = subst (λ (v : Verb). Limited (kindsOf v) (s .args .fields .now)) (arm .verb2 .given .1) (s .pre) in
     (of 1 (lit< tt), of 2 (lit< tt), of 4 (lit< tt), of 6 (lit< tt))
 
 sub-block-tq-requires : tie.Need-sub-block-tq-requires
@@ -80,7 +83,8 @@ call-spec =
     trans-requires
     of-transform-requires
     enum-known-verb
-    quantise-by-requires
+    coding-of-requires
+    quant-nnz-requires
     of-quantise-requires
     enum-known-verb-2
     request-of-requires

@@ -15,22 +15,26 @@ back c = c .before .before .before .before .before .before .before .before
 abbrev ended : tie.After-look-back → tie.After-last-place
 ended c = c .before .before .before .before
 
+abbrev called : tie.After-last-place → tie.Start
+called c = c .before .before .before .before .before .before .before
+
 abbrev start : tie.After-look-back → tie.Start
-start c = ended c .before .before .before .before .before .before .before
+start c = called (ended c)
 
 small : (c : tie.After-look-back) → c .look-back .result .level ≤ 2 ^ 63 + 2 ^ 60
-small c = level-small _ _ _ _ _ _ _ _ (start c .pre .0) (c .look-back .result) (c .look-back .ensures .0)
+small c = level-small _ _ _ _ _ _ _ _ _ (start c .pre .0) (c .look-back .result) (c .look-back .ensures .0)
 
 last-place-requires : tie.Need-last-place-requires
 last-place-requires c κs = search needs
 
 look-back-requires : tie.Need-look-back-requires
 look-back-requires c κs =
-    let s = c .before .before .before .before .before .before .before .before .before .before in
+    let ended = c .before .before .before in
+    let s = called ended in
     let f = s .pre .0 in (
       f .scan,
       record { weighable = f .weighable; small = omega (arith, f .left, f .small) },
-      c .before .before .before .last-place .ensures,
+      ended .last-place .ensures,
       s .pre .1,
       s .pre .2,
       s .pre .3,
@@ -88,7 +92,7 @@ returns c =
     let b = back (taken .before .before .before) in
     let s = start b in
     let f = s .pre .0 in
-    found-coded _ _ _ _ _ _ _ _ f (b .look-back .result) (b .look-back .ensures .0) (taken .if1 .taken) _
+    found-coded _ _ _ _ _ _ _ _ _ f (b .look-back .result) (b .look-back .ensures .0) (taken .if1 .taken) _
     (c .before .before .read-off .ensures (s .args .p) (s .args .g) (s .args .kept .now) (f .weighable .sound)
     (ended b .last-place .ensures) (b .look-back .ensures .1))
 
@@ -104,7 +108,7 @@ same-length-7 c = search needs
 returns-2 : tie.Need-returns-2
 returns-2 c =
     let b = back (c .before .before .before) in
-    found-empty _ _ _ _ _ _ _ _ (start b .pre .0) (b .look-back .result) (b .look-back .ensures .0) (c .if1 .left)
+    found-empty _ _ _ _ _ _ _ _ _ (start b .pre .0) (b .look-back .result) (b .look-back .ensures .0) (c .if1 .left)
 
 pub find-in-spec : {M : Type 1} → statement M
 find-in-spec =

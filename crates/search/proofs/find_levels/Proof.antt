@@ -1,44 +1,49 @@
--- `search::find_levels` meets its contract: a block of a side up to 32 fits rooms of 1024 places.
+-- `search::find_levels` meets its contract: a block fits rooms of 1,024 places.
 -- Assumes nothing.
 use mathlib.Core.Path.{_≡_, sym, _∙_}
 use Prim.Native.Nat.{ℕ, _≤_}
+use native.Mathlib.Omega.{arith}
 use lib.ListN.{length, take, replicate}
 use borrow.Author.Needs.{needs}
-use Rattle.search.proofs.Finding.{fits, lent}
+use Rattle.weights.proofs.Rooms.{lent}
 use Rattle.search.proofs.find_levels.Statement.{statement}
 use Rattle.search.proofs.find_levels.Tie as tie
 
+-- the call's inputs
+abbrev start : tie.After-find-in-arg → tie.Start
+start c = c .before .before .before .before
+
 -- the block fits, and the part of a room that is lent has its length
 room : (s : tie.Start) → length (s .args .kept .now) ≤ 1024
-room s = fits 32 (s .args .side) (s .args .kept .now) (s .pre .0) (s .pre .1 .weighable .room)
+room s = omega (arith, s .pre .weighable .room, s .pre .scan .few)
 
 part : (s : tie.Start) → length (take {A = ℕ} (length (s .args .kept .now)) (replicate 1024 0))
     ≡ length (s .args .kept .now)
-part s = lent 32 (s .args .side) (s .args .kept .now) (s .pre .0) (s .pre .1 .weighable .room)
+part s = lent 1024 (length (s .args .kept .now)) (room s)
 
 array-borrow-prefix-after-zero : tie.Need-array-borrow-prefix-after-zero
-array-borrow-prefix-after-zero c = room (c .before .before .before .before)
+array-borrow-prefix-after-zero c = room (start c)
 
 slice-aggregate-find-in : tie.Need-slice-aggregate-find-in
-slice-aggregate-find-in c = sym (part (c .before .before .before .before .before))
+slice-aggregate-find-in c = sym (part (start (c .before)))
 
 array-borrow-prefix-after-level : tie.Need-array-borrow-prefix-after-level
-array-borrow-prefix-after-level c = room (c .before .before .before .before .before)
+array-borrow-prefix-after-level c = room (start (c .before))
 
 slice-aggregate-find-in-2 : tie.Need-slice-aggregate-find-in-2
-slice-aggregate-find-in-2 c = sym (part (c .before .before .before .before .before .before))
+slice-aggregate-find-in-2 c = sym (part (start (c .before .before)))
 
 array-borrow-prefix-goes-on : tie.Need-array-borrow-prefix-goes-on
-array-borrow-prefix-goes-on c = room (c .before .before .before .before .before .before)
+array-borrow-prefix-goes-on c = room (start (c .before .before))
 
 slice-aggregate-find-in-3 : tie.Need-slice-aggregate-find-in-3
-slice-aggregate-find-in-3 c = sym (part (c .before .before .before .before .before .before .before))
+slice-aggregate-find-in-3 c = sym (part (start (c .before .before .before)))
 
 find-in-requires : tie.Need-find-in-requires
 find-in-requires c κs =
-    let s = c .before .before .before .before .before .before .before in
-    let e = part s ∙ s .pre .1 .weighable .room in
-    (s .pre .1, e, e, e)
+    let s = start (c .before .before .before) in
+    let e = part s ∙ s .pre .weighable .room in
+    (s .pre, e, e, e)
 
 same-length : tie.Need-same-length
 same-length c = search needs

@@ -6,17 +6,30 @@ use mathlib.Core.List.{List}
 use Prim.Native.Nat.{_+_, _/_}
 use borrow.Author.Needs.{needs}
 use lib.IntN.{ℤ}
-use Rattle.subblock.specs.Parts.{AllReady}
-use Rattle.subblock.proofs.Passed.{room-of, room, all-ready}
+use Rattle.turns.specs.Inner.Parts.{AllReady}
+use Rattle.subblock.proofs.Passed.{room-of, all-ready}
 use Rattle.subblock.proofs.Finished.{front, finished-answer, finished-coded, finished-refused}
 use Rattle.subblock.proofs.code_in.Statement.{statement}
 use Rattle.subblock.proofs.code_in.Tie as tie
 
-add-v : tie.Need-add-v
-add-v c = search needs
+-- where the room was filled and where the three were coded, and the call's inputs
+abbrev start : tie.After-copy → tie.Start
+start c = c .before .before .before .before
 
-add-v-2 : tie.Need-add-v-2
-add-v-2 c = search needs
+abbrev filled : tie.After-code-parts → tie.After-copy
+filled c = c .before .before .before
+
+abbrev coded : tie.After-enum-told → tie.After-code-parts
+coded c = c .before .before .before
+
+abbrev written : tie.After-write-back-arg2 → tie.After-enum-told
+written c = c .before .before
+
+add-v-end : tie.Need-add-v-end
+add-v-end c = search needs
+
+add-v-end-2 : tie.Need-add-v-end-2
+add-v-end-2 c = search needs
 
 sub-copy : tie.Need-sub-copy
 sub-copy c = search needs
@@ -35,11 +48,11 @@ copy-requires c κs = search needs
 
 code-parts-requires : tie.Need-code-parts-requires
 code-parts-requires c κs =
-    let s = c .before .before .before .before .before .before in
+    let f = c .before .before in
+    let s = start f in
     subst
     (λ (l : List ℤ). AllReady (s .args .q) (s .args .n) l)
-    (sym (front (s .args .buffer .now) _ (s .args .n + s .args .n / 4 + s .args .n / 4)
-    (c .before .before .copy .ensures)))
+    (sym (front (s .args .buffer .now) _ (s .args .n + s .args .n / 4 + s .args .n / 4) (f .copy .ensures)))
     (all-ready (s .args .buffer .now) (s .args .q) (s .args .n) (s .pre .sizes) (s .pre .passed .settings)
     (s .pre .passed .buffer))
 
@@ -48,7 +61,7 @@ enum-told c = search needs
 
 write-back-requires : tie.Need-write-back-requires
 write-back-requires c κs =
-    let s = c .before .before .before .before .before .before .before .before .before .before .before .before in (
+    let s = start (filled (coded (written c))) in (
       s .pre .sizes .small,
       search needs,
       room-of (s .args .buffer .now) (s .args .q) (s .args .n) (s .pre .sizes)
@@ -66,14 +79,16 @@ same-length-2 c = search needs
 
 returns : tie.Need-returns
 returns c =
-    let r = c .before .before .before .before .before .before .before in
-    let s = r .before .before .before .before .before .before .before in
+    let t = written (c .before .before) in
+    let r = coded t in
+    let f = filled r in
+    let s = start f in
     let b = s .args .buffer .now in
     let q = s .args .q in
     let n = s .args .n in
-    let e = r .before .before .before .copy .ensures in
+    let e = f .copy .ensures in
     let p = r .code-parts .ensures in
-    let g = c .before .before .before .before .enum-told .given in (
+    let g = t .enum-told .given in (
       finished-answer b q n (s .pre .sizes) (s .pre .passed) _ _ _ e p,
       c .before .write-back .ensures
           ∙ sym (finished-coded b q n (s .pre .sizes) (s .pre .passed) _ _ _ e p (g .0 .0) (g .0 .1 .0) (g .0 .1 .1 .0)
@@ -89,11 +104,12 @@ same-length-4 c = search needs
 returns-2 : tie.Need-returns-2
 returns-2 c =
     let r = c .before .before .before in
-    let s = r .before .before .before .before .before .before .before in
+    let f = filled r in
+    let s = start f in
     let b = s .args .buffer .now in
     let q = s .args .q in
     let n = s .args .n in
-    let e = r .before .before .before .copy .ensures in
+    let e = f .copy .ensures in
     let p = r .code-parts .ensures in
     let g = c .enum-told2 .given in (
       finished-answer b q n (s .pre .sizes) (s .pre .passed) _ _ _ e p,
@@ -104,8 +120,8 @@ pub code-in-spec : {M : Type 1} → statement M
 code-in-spec =
     tie.close
     (tie.spec
-    add-v
-    add-v-2
+    add-v-end
+    add-v-end-2
     sub-copy
     part-copy-start
     part-copy-end

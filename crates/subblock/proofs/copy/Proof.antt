@@ -11,8 +11,6 @@ use mir.Facts.{toZ-ofZ}
 use Rattle.integers.proofs.Fill.{Filled, filled-more, filled-all}
 use Rattle.subblock.proofs.copy.Statement.{statement}
 use Rattle.subblock.proofs.copy.Tie as tie
-use Rattle.subblock.proofs.copy.Reads as reads
-use Rattle.subblock.proofs.copy.Lts as lts
 
 abbrev Inv-loop : tie.InvT-loop
 Inv-loop from to₀ n i₀ to i = (i ≤ n) × (length to ≡ length to₀) × Filled (pos 0) to (λ j. getD from j (pos 0)) i

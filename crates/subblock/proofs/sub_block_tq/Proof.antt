@@ -1,13 +1,27 @@
 -- `subblock::sub_block_tq` meets its contract: a fault of the first two groups is the call's refusal, and the rest is
 -- coded.
 -- Assumes nothing.
-use mathlib.Core.Path.{sym, ap, _∙_}
-use Rattle.subblock.specs.Tested.{verdictOf}
-use Rattle.subblock.proofs.Passed.{sides}
+use mathlib.Core.Path.{_≡_, sym, ap, _∙_}
+use Rattle.refusals.specs.Faults.{accepted, passed, verdict}
+use Rattle.components.specs.Call.{SubBlock, requested}
+use Rattle.components.specs.Inner.Groups.{settingsFaults}
+use Rattle.admission.specs.Inner.Tested.{verdictOf}
+use Rattle.subblock.proofs.Passed.{log2-fine}
 use Rattle.subblock.proofs.Finished.{settings-refused, buffer-refused}
 use borrow.Author.Needs.{needs}
 use Rattle.subblock.proofs.sub_block_tq.Statement.{statement}
 use Rattle.subblock.proofs.sub_block_tq.Tie as tie
+
+-- behind the first test that passes: the call's inputs, and no fault of settings
+abbrev start : tie.After-enum-told → tie.Start
+start c = c .before .before .before
+
+abbrev call : tie.Start → SubBlock
+call s = requested (s .args .buffer .now) (s .args .q)
+
+settings-passed : (c : tie.After-enum-told) → verdict settingsFaults (call (start c)) ≡ passed
+settings-passed c =
+    sym (c .before .before .test-settings .ensures (start c .args .buffer .now)) ∙ ap verdictOf (c .enum-told .given .1)
 
 test-settings-requires : tie.Need-test-settings-requires
 test-settings-requires c κs = search needs
@@ -27,9 +41,8 @@ enum-told c = search needs
 
 test-buffer-requires : tie.Need-test-buffer-requires
 test-buffer-requires c κs =
-    let t = c .before .before .before in
-    sides (t .before .args .buffer .now) (t .before .args .q)
-    (sym (t .test-settings .ensures (t .before .args .buffer .now)) ∙ ap verdictOf (c .before .enum-told .given .1))
+    let a = start (c .before) .args in
+    log2-fine (a .buffer .now) (a .q) (settings-passed (c .before))
 
 enum-known-second : tie.Need-enum-known-second
 enum-known-second c = search needs
@@ -40,10 +53,9 @@ same-length c = search needs
 returns-2 : tie.Need-returns-2
 returns-2 c =
     let u = c .before .before .before in
-    let t = u .before .before .before .before in
-    let a = t .before .args in
-    buffer-refused (a .buffer .now) (a .q) _ _
-    (sym (t .test-settings .ensures (a .buffer .now)) ∙ ap verdictOf (u .before .before .enum-told .given .1))
+    let e = u .before .before in
+    let a = start e .args in
+    buffer-refused (a .buffer .now) (a .q) _ _ (settings-passed e)
     (sym (u .test-buffer .ensures) ∙ ap verdictOf (c .before .second .given .1))
 
 enum-told-2 : tie.Need-enum-told-2
@@ -52,10 +64,8 @@ enum-told-2 c = search needs
 code-tested-requires : tie.Need-code-tested-requires
 code-tested-requires c κs =
     let u = c .before .before .before in
-    let t = u .before .before .before .before in
-    let b = t .before .args .buffer .now in
     record {
-      settings = sym (t .test-settings .ensures b) ∙ ap verdictOf (u .before .before .enum-told .given .1);
+      settings = settings-passed (u .before .before);
       buffer = sym (u .test-buffer .ensures) ∙ ap verdictOf (c .before .enum-told2 .given .1);
     }
 

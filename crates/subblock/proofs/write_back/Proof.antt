@@ -1,58 +1,68 @@
 -- `subblock::write_back` meets its contract: the three stretches, one after the other.
 -- Assumes nothing.
-use Prim.Native.Nat.{_/_}
+use native.Mathlib.Omega.{arith}
 use borrow.Author.Needs.{needs}
-use Rattle.subblock.proofs.ThreeParts.{written-back}
+use Rattle.turns.proofs.ThreeParts.{written-back}
 use Rattle.subblock.proofs.write_back.Statement.{statement}
 use Rattle.subblock.proofs.write_back.Tie as tie
 
-add-u : tie.Need-add-u
-add-u c = search needs
+-- where each stretch was copied, from V's back to Y's, and the call's inputs
+abbrev u-copied : tie.After-copy3 → tie.After-copy2
+u-copied c = c .before .before .before .before
 
-add-v : tie.Need-add-v
-add-v c = search needs
+abbrev y-copied : tie.After-copy2 → tie.After-copy
+y-copied c = c .before .before .before .before
+
+abbrev start : tie.After-copy → tie.Start
+start c = c .before .before .before
+
+add-u-end : tie.Need-add-u-end
+add-u-end c = omega (arith, c .pre)
+
+add-v-end : tie.Need-add-v-end
+add-v-end c = omega (arith, c .pre)
 
 sub-copy : tie.Need-sub-copy
-sub-copy c = search needs
+sub-copy c = omega (arith, c .pre)
 
 part-copy-start : tie.Need-part-copy-start
-part-copy-start c = search needs
+part-copy-start c = omega (arith, c .pre)
 
 part-copy-end : tie.Need-part-copy-end
-part-copy-end c = search needs
+part-copy-end c = omega (arith, c .pre)
 
 sub-copy-2 : tie.Need-sub-copy-2
-sub-copy-2 c = search needs
+sub-copy-2 c = omega (arith, c .before .pre)
 
 part-copy-start-2 : tie.Need-part-copy-start-2
-part-copy-start-2 c = search needs
+part-copy-start-2 c = omega (arith, c .before .pre)
 
 part-copy-end-2 : tie.Need-part-copy-end-2
-part-copy-end-2 c = search needs
+part-copy-end-2 c = omega (arith, c .before .pre)
 
 copy-requires : tie.Need-copy-requires
 copy-requires c κs = search needs
 
 mul-copy : tie.Need-mul-copy
-mul-copy c = search needs
+mul-copy c = omega (arith, start (c .before) .pre)
 
 sub-copy-3 : tie.Need-sub-copy-3
-sub-copy-3 c = search needs
+sub-copy-3 c = omega (arith, start (c .before) .pre)
 
 part-copy-start-3 : tie.Need-part-copy-start-3
-part-copy-start-3 c = search needs
+part-copy-start-3 c = omega (arith, start (c .before) .pre)
 
 part-copy-end-3 : tie.Need-part-copy-end-3
-part-copy-end-3 c = search needs
+part-copy-end-3 c = omega (arith, start (c .before) .pre)
 
 mul-copy-2 : tie.Need-mul-copy-2
-mul-copy-2 c = search needs
+mul-copy-2 c = omega (arith, start (c .before .before) .pre)
 
 sub-copy-4 : tie.Need-sub-copy-4
-sub-copy-4 c = search needs
+sub-copy-4 c = omega (arith, start (c .before .before) .pre)
 
 part-copy-start-4 : tie.Need-part-copy-start-4
-part-copy-start-4 c = search needs
+part-copy-start-4 c = omega (arith, start (c .before .before) .pre)
 
 part-copy-end-4 : tie.Need-part-copy-end-4
 part-copy-end-4 c = search needs
@@ -61,25 +71,25 @@ copy-requires-2 : tie.Need-copy-requires-2
 copy-requires-2 c κs = search needs
 
 mul-copy-3 : tie.Need-mul-copy-3
-mul-copy-3 c = search needs
+mul-copy-3 c = omega (arith, start (y-copied (c .before)) .pre)
 
 sub-copy-5 : tie.Need-sub-copy-5
-sub-copy-5 c = search needs
+sub-copy-5 c = omega (arith, start (y-copied (c .before)) .pre)
 
 part-copy-start-5 : tie.Need-part-copy-start-5
-part-copy-start-5 c = search needs
+part-copy-start-5 c = omega (arith, start (y-copied (c .before)) .pre)
 
 part-copy-end-5 : tie.Need-part-copy-end-5
-part-copy-end-5 c = search needs
+part-copy-end-5 c = omega (arith, start (y-copied (c .before)) .pre)
 
 mul-copy-4 : tie.Need-mul-copy-4
-mul-copy-4 c = search needs
+mul-copy-4 c = omega (arith, start (y-copied (c .before .before)) .pre)
 
 sub-copy-6 : tie.Need-sub-copy-6
-sub-copy-6 c = search needs
+sub-copy-6 c = omega (arith, start (y-copied (c .before .before)) .pre)
 
 part-copy-start-6 : tie.Need-part-copy-start-6
-part-copy-start-6 c = search needs
+part-copy-start-6 c = omega (arith, start (y-copied (c .before .before)) .pre)
 
 part-copy-end-6 : tie.Need-part-copy-end-6
 part-copy-end-6 c = search needs
@@ -92,17 +102,19 @@ same-length c = search needs
 
 returns : tie.Need-returns
 returns c =
-    let s = c .before .before .before .before .before .before .before .before .before .before .before .before in
-    written-back (s .args .room .now) (s .args .buffer .now) _ _ _ (s .args .n) (s .args .n / 4) (s .pre .1)
-    (c .before .before .before .before .before .before .before .before .before .copy .ensures)
-    (c .before .before .before .before .before .copy2 .ensures) (c .before .copy3 .ensures)
+    let v = c .before in
+    let u = u-copied v in
+    let y = y-copied u in
+    let s = start y in
+    written-back (s .args .room .now) (s .args .buffer .now) _ _ _ (s .args .n) (s .pre .1) (y .copy .ensures)
+    (u .copy2 .ensures) (v .copy3 .ensures)
 
 pub write-back-spec : {M : Type 1} → statement M
 write-back-spec =
     tie.close
     (tie.spec
-    add-u
-    add-v
+    add-u-end
+    add-v-end
     sub-copy
     part-copy-start
     part-copy-end

@@ -4,8 +4,8 @@
 use mathlib.Core.Path.{_≡_}
 use lib.ListN.{length}
 use borrow.Author.Needs.{needs}
-use Rattle.lines.proofs.Told.{told-at, told-too-long}
-use Rattle.lines.specs.Lines.{Within}
+use Rattle.input.proofs.Told.{told-at, told-too-long}
+use Rattle.input.specs.Lines.{Within}
 use Rattle.tq.proofs.answer_all.Statement.{statement}
 use Rattle.tq.proofs.answer_all.Tie as tie
 
@@ -30,19 +30,23 @@ next-requires c κs = search needs
 enum-known-from : tie.Need-enum-known-from Inv-loop μ-loop
 enum-known-from c = search needs
 
+-- the line that `next` handed out, from the arm of the match that took it apart
+abbrev line : tie.After-from Inv-loop μ-loop → tie.After-next Inv-loop μ-loop
+line c = let arm = c .before .before in arm .before .before
+
+abbrev passed : tie.After-rest Inv-loop μ-loop → tie.After-next Inv-loop μ-loop
+passed c = let arm = c .before .before in arm .before .before
+
 sub-answer : tie.Need-sub-answer Inv-loop μ-loop
-sub-answer c =
-    (told-at _ _ _ (c .before .from .given .1) (c .before .before .before .before .before .next .ensures)) .order
+sub-answer c = let at = c .before in (told-at _ _ _ (at .from .given .1) (line at .next .ensures)) .order
 
 part-answer-start : tie.Need-part-answer-start Inv-loop μ-loop
 part-answer-start c =
-    (told-at _ _ _ (c .before .before .from .given .1)
-    (c .before .before .before .before .before .before .next .ensures)) .order
+    let at = c .before .before in (told-at _ _ _ (at .from .given .1) (line at .next .ensures)) .order
 
 part-answer-end : tie.Need-part-answer-end Inv-loop μ-loop
 part-answer-end c =
-    (told-at _ _ _ (c .before .before .from .given .1)
-    (c .before .before .before .before .before .before .next .ensures)) .held
+    let at = c .before .before in (told-at _ _ _ (at .from .given .1) (line at .next .ensures)) .held
 
 answer-requires : tie.Need-answer-requires Inv-loop μ-loop
 answer-requires c κs = search needs
@@ -51,11 +55,12 @@ loop-less : tie.Need-loop-less Inv-loop μ-loop
 loop-less c = search needs
 
 loop-again : tie.Need-loop-again Inv-loop μ-loop
-loop-again c = (
-  (told-at _ _ _ (c .before .before .before .before .before .from .given .1)
-      (c .before .before .before .before .before .before .before .before .before .next .ensures)) .left,
-  search needs,
-)
+loop-again c =
+    let answered = c .before .before in
+    let at = answered .before .before .before in (
+      (told-at _ _ _ (at .from .given .1) (line at .next .ensures)) .left,
+      search needs,
+    )
 
 enum-known-rest : tie.Need-enum-known-rest Inv-loop μ-loop
 enum-known-rest c = search needs
@@ -67,11 +72,11 @@ loop-less-2 : tie.Need-loop-less-2 Inv-loop μ-loop
 loop-less-2 c = search needs
 
 loop-again-2 : tie.Need-loop-again-2 Inv-loop μ-loop
-loop-again-2 c = (
-  told-too-long _ _ _ (c .before .before .before .rest .given .1)
-      (c .before .before .before .before .before .before .before .next .ensures),
-  search needs,
-)
+loop-again-2 c =
+    let long = c .before .before .before in (
+      told-too-long _ _ _ (long .rest .given .1) (passed long .next .ensures),
+      search needs,
+    )
 
 enum-told : tie.Need-enum-told Inv-loop μ-loop
 enum-told c = search needs

@@ -7,21 +7,22 @@ use native.Mathlib.Omega.{arith}
 use lib.ListN.{length, getD, set}
 use borrow.Author.Needs.{needs}
 use Rattle.tables.specs.Scan.{scanAt}
-use Rattle.price.specs.OnePass.{step}
-use Rattle.rule.specs.Prices.{ruleBy}
-use Rattle.rule.specs.Places.{Scanned}
-use Rattle.rule.proofs.Places.{some-kept, product-small}
-use Rattle.walk.specs.Walking.{Begins, Ready, totalsOf}
+use Rattle.price.specs.Inner.OnePass.{step}
+use Rattle.weights.specs.Inner.Prices.{ruleBy}
+use Rattle.weights.specs.Inner.Places.{Scanned}
+use Rattle.weights.proofs.Places.{some-kept, product-small}
+use Rattle.walk.specs.Inner.Walking.{Begins, Ready, totalsOf}
 use Rattle.walk.proofs.Steps.{Walking, begun, going, ready, base-small, passes, steps, taken-small, walked-over}
 use Rattle.walk.proofs.walk_places.Statement.{statement}
 use Rattle.walk.proofs.walk_places.Tie as tie
 
 abbrev Inv-loop : tie.InvT-loop
-Inv-loop kept levels₀ scan side p g count w₀ left₀ end₀ n₀ levels w left end n =
-    (sc : Scanned side scan) × (b : Begins p g w₀ side kept) × Walking p g w₀ side kept scan sc b levels w end left n
+Inv-loop kept levels₀ scan width height p g count first left₀ end₀ n₀ levels totals left end n =
+    (sc : Scanned width height scan) × (b : Begins p g first width height kept)
+    × Walking p g first width height kept scan sc b levels totals end left n
 
 abbrev μ-loop : tie.MeasureT-loop
-μ-loop kept levels₀ scan side p g count w₀ left₀ end₀ n₀ levels w left end n = length scan - n
+μ-loop kept levels₀ scan width height p g count first left₀ end₀ n₀ levels totals left end n = length scan - n
 
 -- the call's inputs, and the loop's turn
 abbrev Turn : Type 0
@@ -33,18 +34,22 @@ start c = c .before .before .before .before .before
 abbrev turn : tie.After-magnitude-at Inv-loop μ-loop → Turn
 turn c = c .before .before .before
 
+-- what is kept for a place that is stepped at
+abbrev stepping : tie.After-struct-known2 Inv-loop μ-loop → tie.After-magnitude-at Inv-loop μ-loop
+stepping c = c .before .before .before .before .before
+
 -- the scan place of a turn
 abbrev scanned : Turn → ℕ
-scanned c = scanAt (start c .args .side) (start c .args .side) (c .before .loop .n)
+scanned c = scanAt (start c .args .w) (start c .args .h) (c .before .loop .n)
 
 -- the place lies inside the block
-inside-n : (c : Turn) → c .before .loop .n < start c .args .side * start c .args .side
+inside-n : (c : Turn) → c .before .loop .n < start c .args .w * start c .args .h
 inside-n c =
     let l = c .before .loop in
-    going _ _ _ _ _ _ (l .inv .0) (l .inv .1) (l .levels) (l .w) (l .end) (l .left) (l .n) (l .inv .2)
+    going _ _ _ _ _ _ _ (l .inv .0) (l .inv .1) (l .levels) (l .totals) (l .end) (l .left) (l .n) (l .inv .2)
     (omega (arith, c .loop-test .taken))
 
-long : (c : Turn) → length (start c .args .scan .now) ≡ start c .args .side * start c .args .side
+long : (c : Turn) → length (start c .args .scan .now) ≡ start c .args .w * start c .args .h
 long c = let sc = c .before .loop .inv .0 in ap length (sc .is) ∙ sc .full
 
 loop-holds : tie.Need-loop-holds Inv-loop μ-loop
@@ -52,7 +57,7 @@ loop-holds c =
     let s = c .before .before .before in (
       s .pre .0,
       s .pre .1,
-      begun (s .args .p) (s .args .g) (s .args .first) (s .args .side) (s .args .kept .now)
+      begun (s .args .p) (s .args .g) (s .args .first) (s .args .w) (s .args .h) (s .args .kept .now)
           (s .args .scan .now) (s .pre .0) (s .pre .1) (s .args .levels .now) (s .args .count) (s .pre .3) (s .pre .4)
           (s .pre .2),
     )
@@ -65,8 +70,8 @@ block-place-requires c κs =
     let sc = c .before .before .loop .inv .0 in (
       sc .is,
       omega (arith, c .scan-place .ensures .0, inside-n (c .before), long (c .before)),
-      sc .some,
-      sc .some,
+      sc .wide,
+      sc .high,
       sc .few,
     )
 
@@ -78,7 +83,7 @@ magnitude-at-requires c κs =
 place-is : (c : tie.After-block-place Inv-loop μ-loop) → c .block-place .result .0 ≡ scanned (c .before .before)
 place-is c =
     let s = start (c .before .before) in
-    c .block-place .ensures .0 ∙ ap (scanAt (s .args .side) (s .args .side)) (c .before .scan-place .ensures .0)
+    c .block-place .ensures .0 ∙ ap (scanAt (s .args .w) (s .args .h)) (c .before .scan-place .ensures .0)
 
 kept-is : (c : tie.After-magnitude-at Inv-loop μ-loop)
     → c .magnitude-at .result ≡ getD (start (turn c) .args .kept .now) (scanned (turn c)) 0
@@ -88,7 +93,7 @@ pass-requires : tie.Need-pass-requires Inv-loop μ-loop
 pass-requires c κs =
     let l = turn (c .before) .before .loop in (
       l .inv .1 .weighable .modest,
-      base-small _ _ _ _ _ _ (l .inv .0) (l .inv .1) (l .levels) (l .w) (l .end) (l .left)
+      base-small _ _ _ _ _ _ _ (l .inv .0) (l .inv .1) (l .levels) (l .totals) (l .end) (l .left)
           (l .n) (l .inv .2) (inside-n (turn (c .before))),
     )
 
@@ -102,7 +107,7 @@ mul-step : tie.Need-mul-step Inv-loop μ-loop
 mul-step c =
     let t = turn (c .before .before) in
     let l = t .before .loop in
-    let x = product-small _ _ _ _ (l .inv .1 .weighable) (scanned t) in
+    let x = product-small _ _ _ _ _ (l .inv .1 .weighable) (scanned t) in
     record { fits = omega (arith, x, ap (λ (a : ℕ). a * start t .args .g .q) (kept-is (c .before .before))) }
 
 -- something is kept for a place that is stepped at
@@ -115,48 +120,49 @@ step-requires c κs =
     let t = turn (c .before .before) in
     let s = start t in
     let l = t .before .loop in
-    subst (λ (a : ℕ). Ready (s .args .p) (s .args .g) (l .w) (l .n) (a * s .args .g .q))
+    subst (λ (a : ℕ). Ready (s .args .p) (s .args .g) (l .totals) (l .n) (a * s .args .g .q))
     (sym (kept-is (c .before .before)))
-    (ready _ _ _ _ _ _ (l .inv .0) (l .inv .1) (l .levels) (l .w) (l .end) (l .left) (l .n) (l .inv .2) (inside-n t)
+    (ready _ _ _ _ _ _ _ (l .inv .0) (l .inv .1) (l .levels) (l .totals) (l .end) (l .left) (l .n) (l .inv .2)
+    (inside-n t)
     (some-kept _ (kept-there (c .before))))
 
 -- the step, of what is kept
 stepped-by : (c : tie.After-step Inv-loop μ-loop)
     → (let t = turn (c .before .before .before) in
     totalsOf (c .step .result)
-    ≡ step (ruleBy (start t .args .p) (start t .args .g)) (t .before .loop .n) (totalsOf (t .before .loop .w))
+    ≡ step (ruleBy (start t .args .p) (start t .args .g)) (t .before .loop .n) (totalsOf (t .before .loop .totals))
     (getD (start t .args .kept .now) (scanned t) 0 * start t .args .g .q))
 stepped-by c =
     let t = turn (c .before .before .before) in
     c .step .ensures
     ∙ ap (λ (a : ℕ). step (ruleBy (start t .args .p) (start t .args .g)) (t .before .loop .n)
-    (totalsOf (t .before .loop .w)) (a * start t .args .g .q))
+    (totalsOf (t .before .loop .totals)) (a * start t .args .g .q))
     (kept-is (c .before .before .before))
 
 cast-put-magnitude : tie.Need-cast-put-magnitude Inv-loop μ-loop
 cast-put-magnitude c =
-    let t = turn (c .before .before .before .before .before) in
+    let t = turn (stepping c) in
     let l = t .before .loop in
     record {
       fits = omega (
         arith,
-        taken-small _ _ _ _ _ _ (l .inv .0) (l .inv .1) (l .levels) (l .w) (l .end) (l .left)
+        taken-small _ _ _ _ _ _ _ (l .inv .0) (l .inv .1) (l .levels) (l .totals) (l .end) (l .left)
             (l .n) (l .inv .2) (inside-n t) _ (stepped-by (c .before .before)),
       );
     }
 
 put-magnitude-requires : tie.Need-put-magnitude-requires Inv-loop μ-loop
 put-magnitude-requires c κs =
-    let t = turn (c .before .before .before .before .before) in
+    let t = turn (stepping c) in
     omega (
       arith,
-      c .before .before .before .before .before .before .block-place .ensures .1,
+      stepping c .before .block-place .ensures .1,
       t .before .loop .inv .2 .room,
     )
 
 end-with-requires : tie.Need-end-with-requires Inv-loop μ-loop
 end-with-requires c κs =
-    let t = turn (c .before .before .before .before .before .before .before .before) in
+    let t = turn (stepping (c .before .before .before)) in
     omega (arith, inside-n t, t .before .loop .inv .0 .few)
 
 sub-left : tie.Need-sub-left Inv-loop μ-loop
@@ -180,7 +186,7 @@ loop-again c =
       sc,
       begins,
       rw (w .2, w .3, w .4, w .5)
-          (passes _ _ _ _ _ _ sc begins (l .levels) (l .w) (l .end) (l .left) (l .n) (l .inv .2) i _
+          (passes _ _ _ _ _ _ _ sc begins (l .levels) (l .totals) (l .end) (l .left) (l .n) (l .inv .2) i _
           (sym (kept-is (c .before)) ∙ w .0 .taken) (w .1 .ensures)),
     ))
     (λ w.
@@ -195,7 +201,7 @@ loop-again c =
       sc,
       begins,
       rw (put, w .10, w .11, w .12)
-          (steps _ _ _ _ _ _ sc begins (l .levels) (l .w) (l .end) (l .left) (l .n) (l .inv .2) i (w .2 .result)
+          (steps _ _ _ _ _ _ _ sc begins (l .levels) (l .totals) (l .end) (l .left) (l .n) (l .inv .2) i (w .2 .result)
           (stepped-by at-step) _ (w .8 .ensures) (kept-there (record { before = c .before; if1 = w .0 }))),
     ))
     (c .if1 .came)
@@ -206,7 +212,7 @@ same-length c = search needs
 returns : tie.Need-returns Inv-loop μ-loop
 returns c =
     let l = c .before .loop in
-    walked-over _ _ _ _ _ _ (l .inv .0) (l .inv .1) (l .levels) (l .w) (l .end) (l .left) (l .n) (l .inv .2)
+    walked-over _ _ _ _ _ _ _ (l .inv .0) (l .inv .1) (l .levels) (l .totals) (l .end) (l .left) (l .n) (l .inv .2)
     (omega (arith, c .loop-test .left))
 
 pub walk-places-spec : {M : Type 1} → statement M

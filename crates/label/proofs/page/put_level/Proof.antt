@@ -11,8 +11,8 @@ Inv-loop line₀ at level rest₀ n k₀ line rest k = (k ≤ n)
 abbrev μ-loop : tie.MeasureT-loop
 μ-loop line₀ at level rest₀ n k₀ line rest k = n - k
 
-magnitude-requires : tie.Need-magnitude-requires Inv-loop μ-loop
-magnitude-requires c κs = search needs
+absolute-requires : tie.Need-absolute-requires Inv-loop μ-loop
+absolute-requires c κs = search needs
 
 width-requires : tie.Need-width-requires Inv-loop μ-loop
 width-requires c κs = search needs
@@ -65,7 +65,7 @@ put-level-spec =
     (tie.spec
     Inv-loop
     μ-loop
-    magnitude-requires
+    absolute-requires
     width-requires
     loop-holds
     cast-line

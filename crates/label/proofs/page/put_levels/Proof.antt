@@ -1,6 +1,6 @@
 -- `label::page::put_levels` stays inside its line, and counts each of the eight levels once.
 -- Assumes nothing.
-use Rattle.label.specs.Fate.{Most}
+use Rattle.fates.specs.Fate.{Most}
 use Prim.Native.Nat.{_≤_, _-_}
 use borrow.Author.Needs.{needs}
 use Rattle.label.proofs.page.put_levels.Statement.{statement}

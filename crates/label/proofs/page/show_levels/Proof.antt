@@ -1,6 +1,6 @@
 -- `label::page::show_levels` counts each of the 64 levels at most once.
 -- Assumes nothing.
-use Rattle.label.specs.Fate.{Most}
+use Rattle.fates.specs.Fate.{Most}
 use Prim.Native.Nat.{_≤_, _*_, _-_}
 use borrow.Author.Needs.{needs}
 use Rattle.label.proofs.page.show_levels.Statement.{statement}

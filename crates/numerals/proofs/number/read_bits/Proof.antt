@@ -31,27 +31,27 @@ hex-digit-requires c κs = search needs
 
 returns-2 : tie.Need-returns-2 Inv-loop μ-loop
 returns-2 c =
-    let l = c .before .before .before .before .loop in
-    sym (no-digit (l .v) _ (l .i) (c .before .before .before .loop-test .taken)
-    (omega (arith, c .before .hex-digit .ensures))) ∙ l .inv .2
+    let turn = c .before .before .before in
+    let l = turn .before .loop in
+    sym (no-digit (l .v) _ (l .i) (turn .loop-test .taken) (omega (arith, c .before .hex-digit .ensures))) ∙ l .inv .2
 
 mul-v : tie.Need-mul-v Inv-loop μ-loop
 mul-v c =
-    let l = c .before .before .before .before .loop in
+    let turn = c .before .before .before in
+    let l = turn .before .loop in
     record {
       fits = omega (
         arith,
-        fits (l .v) (l .i) 0 (l .inv .1) (omega arith)
-            (omega (arith, c .before .before .before .before .before .if1 .left)),
+        fits (l .v) (l .i) 0 (l .inv .1) (omega arith) (omega (arith, turn .before .before .if1 .left)),
       );
     }
 
 add-v : tie.Need-add-v Inv-loop μ-loop
 add-v c =
-    let l = c .before .before .before .before .loop in
+    let turn = c .before .before .before in
+    let l = turn .before .loop in
     record {
-      fits = fits (l .v) (l .i) _ (l .inv .1) (c .if2 .left)
-          (omega (arith, c .before .before .before .before .before .if1 .left));
+      fits = fits (l .v) (l .i) _ (l .inv .1) (c .if2 .left) (omega (arith, turn .before .before .if1 .left));
     }
 
 add-i : tie.Need-add-i Inv-loop μ-loop
@@ -62,13 +62,15 @@ loop-less c = search needs
 
 loop-again : tie.Need-loop-again Inv-loop μ-loop
 loop-again c =
-    let l = c .before .before .before .before .loop in
+    let turn = c .before .before .before in
+    let begun = turn .before in
+    let word = begun .before .before .before .args .word .now in
+    let l = begun .loop in
     let d = c .before .hex-digit .ensures in (
       omega arith,
       one-more (l .v) (l .i) _ (l .inv .1) (c .if2 .left),
-      ap (λ (d : ℕ). hexRead (16 * l .v + d)
-          (drop (l .i + 1) (c .before .before .before .before .before .before .before .args .word .now))) d
-          ∙ sym (digit-next (l .v) _ (l .i) (c .before .before .before .loop-test .taken) (omega (arith, d)))
+      ap (λ (d : ℕ). hexRead (16 * l .v + d) (drop (l .i + 1) word)) d
+          ∙ sym (digit-next (l .v) _ (l .i) (turn .loop-test .taken) (omega (arith, d)))
           ∙ l .inv .2,
     )
 

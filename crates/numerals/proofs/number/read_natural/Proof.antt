@@ -57,23 +57,26 @@ returns-3 c =
 
 returns-4 : tie.Need-returns-4 Inv-loop μ-loop
 returns-4 c =
-    let l = c .before .before .before .before .loop in
-    sym (no-digit _ (l .v) _ (l .i) (c .before .before .before .loop-test .taken) (above-digits _ (c .if5 .taken)))
-    ∙ l .inv .2
+    let turn = c .before .before .before in
+    let l = turn .before .loop in
+    sym (no-digit _ (l .v) _ (l .i) (turn .loop-test .taken) (above-digits _ (c .if5 .taken))) ∙ l .inv .2
 
 cast-d : tie.Need-cast-d Inv-loop μ-loop
 cast-d c = search needs
 
 returns-5 : tie.Need-returns-5 Inv-loop μ-loop
 returns-5 c =
-    let l = c .before .before .before .before .before .loop in
-    sym (past-limit _ (l .v) _ (l .i) (c .before .before .before .before .loop-test .taken) (omega arith)) ∙ l .inv .2
+    let digit = c .before in
+    let turn = digit .before .before .before in
+    let l = turn .before .loop in
+    sym (past-limit _ (l .v) _ (l .i) (turn .loop-test .taken) (omega arith)) ∙ l .inv .2
 
 returns-6 : tie.Need-returns-6 Inv-loop μ-loop
 returns-6 c =
-    let l = c .before .before .before .before .before .before .loop in
-    sym (past-limit _ (l .v) _ (l .i) (c .before .before .before .before .before .loop-test .taken) (omega arith))
-    ∙ l .inv .2
+    let digit = c .before .before in
+    let turn = digit .before .before .before in
+    let l = turn .before .loop in
+    sym (past-limit _ (l .v) _ (l .i) (turn .loop-test .taken) (omega arith)) ∙ l .inv .2
 
 mul-v : tie.Need-mul-v Inv-loop μ-loop
 mul-v c = search needs
@@ -89,11 +92,13 @@ loop-less c = search needs
 
 loop-again : tie.Need-loop-again Inv-loop μ-loop
 loop-again c =
-    let l = c .before .before .before .before .before .before .loop in (
+    let digit = c .before .before in
+    let turn = digit .before .before .before in
+    let l = turn .before .loop in (
       omega arith,
       omega arith,
-      sym (digit-next _ (l .v) _ (l .i) (c .before .before .before .before .before .loop-test .taken)
-          (a-digit _ (c .before .before .before .if4 .left) (c .before .before .if5 .left))) ∙ l .inv .2,
+      sym (digit-next _ (l .v) _ (l .i) (turn .loop-test .taken)
+          (a-digit _ (digit .before .if4 .left) (digit .if5 .left))) ∙ l .inv .2,
     )
 
 returns-7 : tie.Need-returns-7 Inv-loop μ-loop

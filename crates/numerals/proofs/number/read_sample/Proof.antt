@@ -36,41 +36,46 @@ enum-told c = search needs
 
 returns-2 : tie.Need-returns-2
 returns-2 c =
-    let r = c .before .before .read-natural in
+    let read = c .before .before in
+    let minus = read .before .before in
     sym no-negative
-    ∙ ap negativeOf (sym (c .enum-told .given .1) ∙ r .ensures)
-    ∙ sym (behind-minus _ (c .before .before .before .before .before .before .if1 .left)
-    (c .before .before .before .before .if2 .taken))
+    ∙ ap negativeOf (sym (c .enum-told .given .1) ∙ read .read-natural .ensures)
+    ∙ sym (behind-minus _ (minus .before .before .if1 .left) (minus .if2 .taken))
 
 returns-3 : tie.Need-returns-3
 returns-3 c =
-    let r = c .before .before .before .before .read-natural in
-    sym (no-minus-zero (c .before .before .n .given .0 .0) (omega arith))
-    ∙ ap negativeOf (sym (c .before .before .n .given .1) ∙ r .ensures)
-    ∙ sym (behind-minus _ (c .before .before .before .before .before .before .before .before .if1 .left)
-    (c .before .before .before .before .before .before .if2 .taken))
+    let number = c .before .before in
+    let read = number .before .before in
+    let minus = read .before .before in
+    sym (no-minus-zero (number .n .given .0 .0) (omega arith))
+    ∙ ap negativeOf (sym (number .n .given .1) ∙ read .read-natural .ensures)
+    ∙ sym (behind-minus _ (minus .before .before .if1 .left) (minus .if2 .taken))
 
 sub-t14 : tie.Need-sub-t14
 sub-t14 c = search needs
 
 cast-t15 : tie.Need-cast-t15
 cast-t15 c =
-    one-less-fits _ (c .if3 .left) (within _ _ _ (sym (c .before .before .before .before .read-natural .ensures)
-    ∙ c .before .before .n .given .1))
+    let number = c .before .before in
+    one-less-fits _ (c .if3 .left)
+    (within _ _ _ (sym (number .before .before .read-natural .ensures) ∙ number .n .given .1))
 
 sub-t16 : tie.Need-sub-t16
 sub-t16 c =
-    minus-fits _ (c .if3 .left) (within _ _ _ (sym (c .before .before .before .before .read-natural .ensures)
-    ∙ c .before .before .n .given .1))
+    let number = c .before .before in
+    minus-fits _ (c .if3 .left)
+    (within _ _ _ (sym (number .before .before .read-natural .ensures) ∙ number .n .given .1))
 
 returns-4 : tie.Need-returns-4
 returns-4 c =
-    let r = c .before .before .before .before .read-natural in
-    let n = c .before .before .n .given in
+    let number = c .before .before in
+    let n = number .n .given in
+    let read = number .before .before in
+    let r = read .read-natural in
+    let minus = read .before .before in
     a-negative _ (c .if3 .left) (within _ _ _ (sym (r .ensures) ∙ n .1))
     ∙ ap negativeOf (sym (n .1) ∙ r .ensures)
-    ∙ sym (behind-minus _ (c .before .before .before .before .before .before .before .before .if1 .left)
-    (c .before .before .before .before .before .before .if2 .taken))
+    ∙ sym (behind-minus _ (minus .before .before .if1 .left) (minus .if2 .taken))
 
 read-natural-requires-2 : tie.Need-read-natural-requires-2
 read-natural-requires-2 c κs = search needs
@@ -83,10 +88,11 @@ enum-told-2 c = search needs
 
 returns-5 : tie.Need-returns-5
 returns-5 c =
-    let r = c .before .before .read-natural2 in
+    let read = c .before .before in
+    let signless = read .before in
     sym no-positive
-    ∙ ap positiveOf (sym (c .enum-told2 .given .1) ∙ r .ensures)
-    ∙ sym (plain _ (c .before .before .before .before .before .if1 .left) (c .before .before .before .if2 .left))
+    ∙ ap positiveOf (sym (c .enum-told2 .given .1) ∙ read .read-natural2 .ensures)
+    ∙ sym (plain _ (signless .before .before .if1 .left) (signless .if2 .left))
 
 cast-t18 : tie.Need-cast-t18
 cast-t18 c = plain-fits _ (within _ _ _ (sym (c .before .before .before .read-natural2 .ensures)
@@ -94,12 +100,13 @@ cast-t18 c = plain-fits _ (within _ _ _ (sym (c .before .before .before .read-na
 
 returns-6 : tie.Need-returns-6
 returns-6 c =
-    let r = c .before .before .before .read-natural2 in
+    let read = c .before .before .before in
+    let r = read .read-natural2 in
     let n = c .before .n2 .given in
+    let signless = read .before in
     a-positive _ (within _ _ _ (sym (r .ensures) ∙ n .1))
     ∙ ap positiveOf (sym (n .1) ∙ r .ensures)
-    ∙ sym (plain _ (c .before .before .before .before .before .before .if1 .left)
-    (c .before .before .before .before .if2 .left))
+    ∙ sym (plain _ (signless .before .before .if1 .left) (signless .if2 .left))
 
 pub read-sample-spec : {M : Type 1} → statement M
 read-sample-spec =

@@ -83,12 +83,14 @@ put-natural-slice-write-out-2 : (t : ℕ) → put-natural-lts.Need-slice-write-o
   put-natural.Post,
 ) (put-natural-at t) put-natural.Post
 put-natural-slice-write-out-2 t c =
-    let p = c .before .before .put-natural in
+    let put = c .before .before in
+    let p = put .put-natural in
+    let arm = put .before .before in
     omega (
       arith,
       p .ensures .next,
       p .kept .0,
-      few-digits 18 (c .before .before .before .before .before .before .args .value / 10) (omega arith),
+      few-digits 18 (arm .before .before .args .value / 10) (omega arith),
     )
 
 put-natural-add-result-2 : (t : ℕ) → put-natural-lts.Need-add-result-2 (
@@ -108,9 +110,10 @@ put-natural-returns-2 : (t : ℕ) → put-natural-lts.Need-returns-2 (
   put-natural.Post,
 ) (put-natural-at t) put-natural.Post
 put-natural-returns-2 t c =
-    put-more _ _ _ _ _ (c .before .before .before .before .before .before .pre .1)
-    (c .before .before .before .before .if1 .left)
-    (c .before .before .before .before .before .before .fits .value .fits) (c .before .before .put-natural .ensures)
+    let put = c .before .before in
+    let arm = put .before .before in
+    let s = arm .before .before in
+    put-more _ _ _ _ _ (s .pre .1) (arm .if1 .left) (s .fits .value .fits) (put .put-natural .ensures)
 
 pub +put-natural-spec : {M : Type 1} → statement M
 +put-natural-spec = close μ-put-natural λ t. put-natural-lts.spec (

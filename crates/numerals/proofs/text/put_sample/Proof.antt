@@ -8,8 +8,8 @@ use Rattle.numerals.proofs.Signs.{put-minus, put-plain}
 use Rattle.numerals.proofs.text.put_sample.Statement.{statement}
 use Rattle.numerals.proofs.text.put_sample.Tie as tie
 
-magnitude-requires : tie.Need-magnitude-requires
-magnitude-requires c κs = search needs
+absolute-requires : tie.Need-absolute-requires
+absolute-requires c κs = search needs
 
 slice-write-out : tie.Need-slice-write-out
 slice-write-out c = search needs
@@ -25,11 +25,12 @@ same-length c = c .before .before .put-natural .kept .0 ∙ simp length-set
 
 returns : tie.Need-returns
 returns c =
-    let s = c .before .before .before .before .before .before .before in
-    let m = c .before .before .before .before .before .magnitude .ensures in
-    put-minus _ (s .args .at) _ _ _ (m .1) (s .args .value) (s .fits .value) (m .0)
-    (c .before .before .before .before .if1 .taken) (omega (arith, s .pre))
-    (c .before .before .put-natural .ensures)
+    let put = c .before .before in
+    let arm = put .before .before in
+    let s = arm .before .before .before in
+    let m = arm .before .absolute .ensures in
+    put-minus _ (s .args .at) _ _ _ (m .1) (s .args .value) (s .fits .value) (m .0) (arm .if1 .taken)
+    (omega (arith, s .pre)) (put .put-natural .ensures)
 
 put-natural-requires-2 : tie.Need-put-natural-requires-2
 put-natural-requires-2 c κs = search needs
@@ -39,16 +40,17 @@ same-length-2 c = search needs
 
 returns-2 : tie.Need-returns-2
 returns-2 c =
-    let s = c .before .before .before .before .before .before .before in
-    let m = c .before .before .before .before .before .magnitude .ensures in
-    put-plain _ _ _ _ _ (m .1) (s .args .value) (s .fits .value) (m .0) (c .before .before .before .before .if1 .left)
-    (c .before .before .put-natural2 .ensures)
+    let put = c .before .before in
+    let arm = put .before .before in
+    let s = arm .before .before .before in
+    let m = arm .before .absolute .ensures in
+    put-plain _ _ _ _ _ (m .1) (s .args .value) (s .fits .value) (m .0) (arm .if1 .left) (put .put-natural2 .ensures)
 
 pub put-sample-spec : {M : Type 1} → statement M
 put-sample-spec =
     tie.close
     (tie.spec
-    magnitude-requires
+    absolute-requires
     slice-write-out
     add-put-natural
     put-natural-requires

@@ -9,16 +9,16 @@ use lib.ListN.{length, getD}
 use borrow.Author.Needs.{needs}
 use Rattle.tables.specs.Scan.{scanAt}
 use Rattle.price.proofs.Counting.{ones, one-more, none-more}
-use Rattle.rule.specs.Places.{keptAt, keptFrom}
-use Rattle.rule.proofs.Places.{kept-in-all, kept-next, kept-inside, none-kept}
+use Rattle.weights.specs.Inner.Places.{keptAt, keptFrom}
+use Rattle.weights.proofs.Places.{kept-in-all, kept-next, kept-inside, none-kept}
 use Rattle.search.proofs.passes.last_place.Statement.{statement}
 use Rattle.search.proofs.passes.last_place.Tie as tie
 
 abbrev Inv-loop : tie.InvT-loop
-Inv-loop kept scan side count left₀ n₀ left n = (n ≤ side * side) × (left ≡ keptFrom side kept n)
+Inv-loop kept scan width height count left₀ n₀ left n = (n ≤ width * height) × (left ≡ keptFrom width height kept n)
 
 abbrev μ-loop : tie.MeasureT-loop
-μ-loop kept scan side count left₀ n₀ left n = length scan - n
+μ-loop kept scan width height count left₀ n₀ left n = length scan - n
 
 abbrev Turn : Type 0
 Turn = tie.In-loop Inv-loop μ-loop
@@ -30,41 +30,41 @@ start c = c .before .before .before .before
 abbrev turn : tie.After-magnitude-at Inv-loop μ-loop → Turn
 turn c = c .before .before .before
 
-inside-n : (c : Turn) → c .before .loop .n < start c .args .side * start c .args .side
+inside-n : (c : Turn) → c .before .loop .n < start c .args .w * start c .args .h
 inside-n c =
     let s = start c in
     let l = c .before .loop in
-    kept-inside (s .args .side) (s .args .kept .now) (s .args .scan .now) (s .pre .0) (l .n)
+    kept-inside (s .args .w) (s .args .h) (s .args .kept .now) (s .args .scan .now) (s .pre .0) (l .n)
     (omega (arith, l .inv .1, c .loop-test .taken))
 
-long : (c : Turn) → length (start c .args .scan .now) ≡ start c .args .side * start c .args .side
+long : (c : Turn) → length (start c .args .scan .now) ≡ start c .args .w * start c .args .h
 long c = let sc = start c .pre .0 in ap length (sc .is) ∙ sc .full
 
 -- what is left before a turn, and what is kept for its place
 left-there : (c : Turn)
     → (let s = start c in
-    c .before .loop .left ≡ ones (keptAt (s .args .side) (s .args .kept .now) (c .before .loop .n)) + keptFrom
-    (s .args .side) (s .args .kept .now) (c .before .loop .n + 1))
+    c .before .loop .left ≡ ones (keptAt (s .args .w) (s .args .h) (s .args .kept .now) (c .before .loop .n)) + keptFrom
+    (s .args .w) (s .args .h) (s .args .kept .now) (c .before .loop .n + 1))
 left-there c =
     let s = start c in
-    c .before .loop .inv .1 ∙ kept-next (s .args .side) (s .args .kept .now) (s .args .scan .now) (s .pre .0)
+    c .before .loop .inv .1 ∙ kept-next (s .args .w) (s .args .h) (s .args .kept .now) (s .args .scan .now) (s .pre .0)
     (c .before .loop .n) (inside-n c)
 
 kept-is : (c : tie.After-magnitude-at Inv-loop μ-loop)
-    → (let s = start (turn c) in c .magnitude-at .result ≡ keptAt (s .args .side) (s .args .kept .now)
+    → (let s = start (turn c) in c .magnitude-at .result ≡ keptAt (s .args .w) (s .args .h) (s .args .kept .now)
     (turn c .before .loop .n))
 kept-is c =
     let s = start (turn c) in
     c .magnitude-at .ensures
     ∙ ap (λ (k : ℕ). getD (s .args .kept .now) k 0)
     (c .before .block-place .ensures .0
-    ∙ ap (scanAt (s .args .side) (s .args .side)) (c .before .before .scan-place .ensures .0))
+    ∙ ap (scanAt (s .args .w) (s .args .h)) (c .before .before .scan-place .ensures .0))
 
 loop-holds : tie.Need-loop-holds Inv-loop μ-loop
 loop-holds c =
     let s = c .before .before in (
       omega arith,
-      s .pre .2 ∙ kept-in-all (s .args .side) (s .args .kept .now) (s .args .scan .now) (s .pre .0)
+      s .pre .2 ∙ kept-in-all (s .args .w) (s .args .h) (s .args .kept .now) (s .args .scan .now) (s .pre .0)
           (s .pre .1),
     )
 
@@ -76,8 +76,8 @@ block-place-requires c κs =
     let sc = start (c .before) .pre .0 in (
       sc .is,
       omega (arith, c .scan-place .ensures .0, inside-n (c .before), long (c .before)),
-      sc .some,
-      sc .some,
+      sc .wide,
+      sc .high,
       sc .few,
     )
 
@@ -110,7 +110,7 @@ returns c =
     let l = c .before .loop in
     record {
       within = l .inv .0;
-      tail = none-kept (s .args .side) (s .args .kept .now) (s .args .scan .now) (s .pre .0) (l .n)
+      tail = none-kept (s .args .w) (s .args .h) (s .args .kept .now) (s .args .scan .now) (s .pre .0) (l .n)
           (omega (arith, l .inv .1, c .loop-test .left));
     }
 

@@ -7,26 +7,29 @@ use native.Mathlib.Omega.{arith}
 use lib.ListN.{length, getD}
 use borrow.Author.Needs.{needs}
 use Rattle.tables.specs.Scan.{scanAt}
-use Rattle.rule.specs.Places.{keptAt}
-use Rattle.rule.proofs.Places.{some-kept, product-small}
-use Rattle.search.specs.Searching.{Ready, WeighedBy}
+use Rattle.weights.specs.Inner.Places.{keptAt}
+use Rattle.weights.proofs.Places.{some-kept, product-small}
+use Rattle.search.specs.Inner.Searching.{Ready, WeighedBy}
 use Rattle.search.proofs.Looking.{Looking, begun, inside-n, passable, ready, passes, weighs}
 use Rattle.search.proofs.passes.look_back.Statement.{statement}
 use Rattle.search.proofs.passes.look_back.Tie as tie
 
 abbrev Inv-loop : tie.InvT-loop
-Inv-loop kept scan side p g end after-zero₀ after-level₀ goes-on₀ t₀ n₀ after-zero after-level goes-on t n =
-    Looking p g side kept end after-zero after-level goes-on t n
+Inv-loop kept scan width height p g end after-zero₀ after-level₀ goes-on₀ t₀ n₀ after-zero after-level goes-on t n =
+    Looking p g width height kept end after-zero after-level goes-on t n
 
 abbrev μ-loop : tie.MeasureT-loop
-μ-loop kept scan side p g end after-zero₀ after-level₀ goes-on₀ t₀ n₀ after-zero after-level goes-on t n = n
+μ-loop kept scan width height p g end after-zero₀ after-level₀ goes-on₀ t₀ n₀ after-zero after-level goes-on t n = n
 
 -- the loop's turn, and the call's inputs
 abbrev Turn : Type 0
 Turn = tie.In-loop Inv-loop μ-loop
 
+abbrev called : tie.After-slice-known3 Inv-loop μ-loop → tie.Start Inv-loop μ-loop
+called c = c .before .before .before .before .before
+
 abbrev start : Turn → tie.Start Inv-loop μ-loop
-start c = c .before .before .before .before .before .before .before
+start c = called (c .before .before)
 
 abbrev turn : tie.After-magnitude-at Inv-loop μ-loop → Turn
 turn c = c .before .before .before
@@ -36,28 +39,28 @@ abbrev place : Turn → ℕ
 place c = c .before .loop .n - 1
 
 abbrev kept-there : Turn → ℕ
-kept-there c = let a = start c .args in keptAt (a .side) (a .kept .now) (place c)
+kept-there c = let a = start c .args in keptAt (a .w) (a .h) (a .kept .now) (place c)
 
 looking : (c : Turn)
     → (let a = start c .args in
     let l = c .before .loop in
-    Looking (a .p) (a .g) (a .side) (a .kept .now) (a .end) (l .after-zero) (l .after-level) (l .goes-on) (l .t)
+    Looking (a .p) (a .g) (a .w) (a .h) (a .kept .now) (a .end) (l .after-zero) (l .after-level) (l .goes-on) (l .t)
     (suc (place c)))
 looking c =
     let e : suc (place c) ≡ c .before .loop .n = omega (arith, c .loop-test .taken) in
     rw e (c .before .loop .inv)
 
-inside-turn : (c : Turn) → place c < start c .args .side * start c .args .side
-inside-turn c = let h = start c .pre in inside-n _ _ _ _ _ (h .0) (h .1) _ (h .2) _ _ _ _ _ (looking c)
+inside-turn : (c : Turn) → place c < start c .args .w * start c .args .h
+inside-turn c = let h = start c .pre in inside-n _ _ _ _ _ _ (h .0) (h .1) _ (h .2) _ _ _ _ _ (looking c)
 
 few : (c : Turn) → place c < 4096
 few c = omega (arith, inside-turn c, start c .pre .0 .few)
 
 loop-holds : tie.Need-loop-holds Inv-loop μ-loop
 loop-holds c =
-    let s = c .before .before .before .before .before in
+    let s = called c in
     let h = s .pre in
-    begun (s .args .p) (s .args .g) (s .args .side) (s .args .kept .now) (s .args .scan .now) (h .0) (h .1)
+    begun (s .args .p) (s .args .g) (s .args .w) (s .args .h) (s .args .kept .now) (s .args .scan .now) (h .0) (h .1)
     (s .args .end) (h .2) _ _ _ (h .3) (h .4) (h .5)
 
 sub-n : tie.Need-sub-n Inv-loop μ-loop
@@ -71,8 +74,8 @@ block-place-requires c κs =
     let sc = start (c .before) .pre .0 in (
       sc .is,
       omega (arith, c .scan-place .ensures .0, inside-turn (c .before), ap length (sc .is), sc .full),
-      sc .some,
-      sc .some,
+      sc .wide,
+      sc .high,
       sc .few,
     )
 
@@ -84,14 +87,14 @@ kept-is : (c : tie.After-magnitude-at Inv-loop μ-loop) → c .magnitude-at .res
 kept-is c =
     let a = start (turn c) .args in
     let at =
-    c .before .block-place .ensures .0 ∙ ap (scanAt (a .side) (a .side)) (c .before .before .scan-place .ensures .0) in
+    c .before .block-place .ensures .0 ∙ ap (scanAt (a .w) (a .h)) (c .before .before .scan-place .ensures .0) in
     c .magnitude-at .ensures ∙ ap (λ (k : ℕ). getD (a .kept .now) k 0) at
 
 pass-requires : tie.Need-pass-requires Inv-loop μ-loop
 pass-requires c κs =
     let t = turn (c .before) in
     let h = start t .pre in
-    passable _ _ _ _ _ (h .0) (h .1) _ (h .2) _ _ _ _ _ (looking t)
+    passable _ _ _ _ _ _ (h .0) (h .1) _ (h .2) _ _ _ _ _ (looking t)
 
 mul-after-zero : tie.Need-mul-after-zero Inv-loop μ-loop
 mul-after-zero c = search needs
@@ -113,7 +116,7 @@ loop-again c =
     let t = turn (c .before .before) in
     let h = start t .pre in
     rw (c .pass .ensures)
-    (passes _ _ _ _ _ (h .0) (h .1) _ (h .2) _ _ _ _ _ (looking t) (sym (kept-is (c .before .before))
+    (passes _ _ _ _ _ _ (h .0) (h .1) _ (h .2) _ _ _ _ _ (looking t) (sym (kept-is (c .before .before))
     ∙ c .before .if1 .taken))
 
 -- a place that is weighed: something is kept there
@@ -136,7 +139,7 @@ mul-weigh : tie.Need-mul-weigh Inv-loop μ-loop
 mul-weigh c =
     let t = turn (there c) in
     let a = start t .args in
-    let x = product-small _ _ _ _ (start t .pre .1 .weighable) (scanAt (a .side) (a .side) (place t)) in
+    let x = product-small _ _ _ _ _ (start t .pre .1 .weighable) (scanAt (a .w) (a .h) (place t)) in
     record { fits = omega (arith, ap (λ (k : ℕ). k * a .g .q) (kept-is (there c))) }
 
 weigh-requires : tie.Need-weigh-requires Inv-loop μ-loop
@@ -145,7 +148,7 @@ weigh-requires c κs =
     let a = start t .args in
     let h = start t .pre in
     subst (λ (k : ℕ). Ready (a .p) (a .g) (t .before .loop .t) (k * a .g .q)) (sym (kept-is (there c)))
-    (ready _ _ _ _ _ (h .0) (h .1) _ (h .2) _ _ _ _ _ (looking t) (some-there c))
+    (ready _ _ _ _ _ _ (h .0) (h .1) _ (h .2) _ _ _ _ _ (looking t) (some-there c))
 
 cast-after-zero : tie.Need-cast-after-zero Inv-loop μ-loop
 cast-after-zero c = record { fits = omega (arith, c .before .before .weigh .ensures .small .0) }
@@ -188,7 +191,7 @@ loop-again-2 c =
     let h = start t .pre in
     let q = subst (λ (k : ℕ). WeighedBy (a .p) (a .g) (t .before .loop .t) (k * a .g .q) (w .weigh .result))
     (kept-is (there (w .before))) (w .weigh .ensures) in
-    weighs _ _ _ _ _ (h .0) (h .1) _ (h .2) _ _ _ _ _ (looking t) (some-there (w .before)) (w .weigh .result) q
+    weighs _ _ _ _ _ _ (h .0) (h .1) _ (h .2) _ _ _ _ _ (looking t) (some-there (w .before)) (w .weigh .result) q
 
 same-length : tie.Need-same-length Inv-loop μ-loop
 same-length c = search needs

@@ -12,17 +12,20 @@ use Rattle.search.proofs.passes.read_off.Statement.{statement}
 use Rattle.search.proofs.passes.read_off.Tie as tie
 
 abbrev Inv-loop : tie.InvT-loop
-Inv-loop levels₀ scan side end after-zero after-level goes-on stop₀ prev₀ n₀ levels stop prev n =
-    Reading side end after-zero after-level goes-on levels stop prev n
+Inv-loop levels₀ scan width height end after-zero after-level goes-on stop₀ prev₀ n₀ levels stop prev n =
+    Reading width height end after-zero after-level goes-on levels stop prev n
 
 abbrev μ-loop : tie.MeasureT-loop
-μ-loop levels₀ scan side end after-zero after-level goes-on stop₀ prev₀ n₀ levels stop prev n = end - n
+μ-loop levels₀ scan width height end after-zero after-level goes-on stop₀ prev₀ n₀ levels stop prev n = end - n
 
 abbrev Turn : Type 0
 Turn = tie.In-loop Inv-loop μ-loop
 
+abbrev called : tie.After-shared-slice-known4 Inv-loop μ-loop → tie.Start Inv-loop μ-loop
+called c = c .before .before .before .before .before
+
 abbrev start : Turn → tie.Start Inv-loop μ-loop
-start c = c .before .before .before .before .before .before .before
+start c = called (c .before .before)
 
 -- the turn of a place that has its level
 abbrev turn : tie.Joined1 Inv-loop μ-loop → Turn
@@ -31,7 +34,7 @@ turn c = c .before .before
 abbrev levelled : tie.After-shared-slice-known7 Inv-loop μ-loop → tie.Joined1 Inv-loop μ-loop
 levelled c = c .before .before .before .before .before .before .before
 
-inside-n : (c : Turn) → c .before .loop .n < start c .args .side * start c .args .side
+inside-n : (c : Turn) → c .before .loop .n < start c .args .w * start c .args .h
 inside-n c = omega (arith, c .loop-test .taken, c .before .loop .inv .within, start c .pre .1)
 
 -- the level of a place is what is chosen there
@@ -50,8 +53,9 @@ level-is c =
 
 loop-holds : tie.Need-loop-holds Inv-loop μ-loop
 loop-holds c =
-    let s = c .before .before .before .before .before in
-    begun (s .args .side) (s .args .end) _ _ _ (s .args .scan .now) (s .pre .0) (s .args .levels .now) (s .pre .2)
+    let s = called c in
+    begun (s .args .w) (s .args .h) (s .args .end) _ _ _ (s .args .scan .now) (s .pre .0) (s .args .levels .now)
+    (s .pre .2)
     (s .pre .3)
 
 mul-a : tie.Need-mul-a Inv-loop μ-loop
@@ -75,8 +79,8 @@ block-place-requires c κs =
     let sc = start t .pre .0 in (
       sc .is,
       omega (arith, c .scan-place .ensures .0, inside-n t, ap length (sc .is), sc .full),
-      sc .some,
-      sc .some,
+      sc .wide,
+      sc .high,
       sc .few,
     )
 
@@ -106,13 +110,16 @@ loop-again c =
     let t = turn j in
     let s = start t in
     let l = t .before .loop in
-    let at = c .before .before .before .before .before in
-    let put : _ ≡ set (l .levels) (scanAt (s .args .side) (s .args .side) (l .n)) (j .if1 .a) =
-    c .before .before .before .before .put-magnitude .ensures
+    let known = c .before .before in
+    let put-down = known .before .before in
+    let at = put-down .before in
+    let put : _ ≡ set (l .levels) (scanAt (s .args .w) (s .args .h) (l .n)) (j .if1 .a) =
+    put-down .put-magnitude .ensures
     ∙ ap (λ (k : ℕ). set (l .levels) k (j .if1 .a))
-    (at .block-place .ensures .0 ∙ ap (scanAt (s .args .side) (s .args .side)) (at .before .scan-place .ensures .0)) in
+    (at .block-place .ensures .0 ∙ ap (scanAt (s .args .w) (s .args .h)) (at .before .scan-place .ensures .0)) in
     rw (put, c .stop-with .ensures)
-    (reads (s .args .side) (s .args .end) _ _ _ (s .args .scan .now) (s .pre .0) (l .levels) (l .stop) (l .prev) (l .n)
+    (reads (s .args .w) (s .args .h) (s .args .end) _ _ _ (s .args .scan .now) (s .pre .0) (l .levels) (l .stop)
+    (l .prev) (l .n)
     (l .inv) (t .loop-test .taken) (j .if1 .a) (level-is j))
 
 same-length : tie.Need-same-length Inv-loop μ-loop
@@ -120,9 +127,10 @@ same-length c = search needs
 
 returns : tie.Need-returns Inv-loop μ-loop
 returns c =
-    let s = c .before .before .before .before .before .before .before in
+    let s = called (c .before .before) in
     let l = c .before .loop in
-    read (s .args .side) (s .args .end) _ _ _ (s .args .scan .now) (s .pre .0) (l .levels) (l .stop) (l .prev) (l .n)
+    read (s .args .w) (s .args .h) (s .args .end) _ _ _ (s .args .scan .now) (s .pre .0) (l .levels) (l .stop) (l .prev)
+    (l .n)
     (l .inv) (c .loop-test .left)
 
 pub read-off-spec : {M : Type 1} → statement M

@@ -3,7 +3,7 @@
 use mathlib.Core.Path.{_≡_, refl}
 use Prim.Native.Nat.{ℕ, zero, suc, _+_}
 use borrow.Author.Needs.{needs}
-use Rattle.search.specs.Searching.{stopWith}
+use Rattle.search.specs.Inner.Searching.{stopWith}
 use Rattle.search.proofs.passes.stop_with.Statement.{statement}
 use Rattle.search.proofs.passes.stop_with.Tie as tie
 

@@ -8,32 +8,33 @@ use native.Mathlib.Omega.{arith}
 use lib.ListN.{length}
 use borrow.Author.Needs.{needs}
 use Rattle.tables.specs.declared.scans.Scans.{Scans}
-use Rattle.tables.specs.Scan.{mostPlaces, square, squares}
-use Rattle.tables.proofs.OneToOne.{square-length}
+use Rattle.tables.specs.Scan.{mostPlaces, squareScan, squareScans}
+use Rattle.tables.proofs.OneToOne.{square-scan-length}
 use Rattle.tables.proofs.scan.fill_scan.Statement.{statement}
 use Rattle.tables.proofs.scan.fill_scan.Tie as tie
 
 -- a part of the table that is the block's scan, and fits what is lent
 record Part (t : tie.After-listed) (of : Scans → List ℕ) : Type 0 where
-  is : of (t .listed .result) ≡ square (t .before .before .args .log2)
+  is : of (t .listed .result) ≡ squareScan (t .before .before .args .log2)
   fits :
       (length (of (t .listed .result)) ≡ length (t .before .before .args .held .now))
       × (length (t .before .before .args .held .now) ≤ mostPlaces)
 
 -- the part of the block's side
-part : {t : tie.After-listed} {of : Scans → List ℕ} (k : ℕ) → of squares ≡ square k → t .before .before .args .log2 ≡ k
-    → Part t of
-part {t} {of} k e side =
+part : {t : tie.After-listed} {of : Scans → List ℕ} (k : ℕ) → of squareScans ≡ squareScan k
+    → t .before .before .args .log2 ≡ k → Part t of
+part {t} {of} k e log2 =
     let h = t .before .before .pre in
-    let scanned = ap of (t .listed .ensures) ∙ e ∙ ap square (sym side) in
+    let scanned = ap of (t .listed .ensures) ∙ e ∙ ap squareScan (sym log2) in
     record {
       is = scanned;
       fits = (
-        ap length scanned ∙ square-length _ (h .1) ∙ sym (h .2),
+        ap length scanned ∙ square-scan-length _ (h .1) ∙ sym (h .2),
         omega (arith, h .2, pow-le-pow-right {n = 4} (omega arith) (h .1)),
       );
     }
 
+-- where a part is chosen, and the table before it
 two : (c : tie.Then1) → Part (c .before) (λ s. s .two)
 two c = part 1 refl (c .if1 .taken)
 
@@ -43,10 +44,13 @@ four c = part 2 refl (c .if2 .taken)
 eight : (c : tie.Then3) → Part (c .before .before .before) (λ s. s .eight)
 eight c = part 3 refl (c .if3 .taken)
 
-sixteen : (c : tie.Then4) → Part (c .before .before .before .before) (λ s. s .sixteen)
+abbrev table : tie.Else3 → tie.After-listed
+table c = c .before .before .before
+
+sixteen : (c : tie.Then4) → Part (table (c .before)) (λ s. s .sixteen)
 sixteen c = part 4 refl (c .if4 .taken)
 
-thirtytwo : (c : tie.Else4) → Part (c .before .before .before .before) (λ s. s .thirtytwo)
+thirtytwo : (c : tie.Else4) → Part (table (c .before)) (λ s. s .thirtytwo)
 thirtytwo c = part 5 refl (omega arith)
 
 listed-requires : tie.Need-listed-requires
@@ -86,31 +90,46 @@ same-length : tie.Need-same-length
 same-length c = search needs
 
 returns : tie.Need-returns
-returns c = c .before .before .copy .ensures ∙ two (c .before .before .before .before .before .before) .is
+returns c =
+    let copied = c .before .before in
+    let asked = copied .before in
+    copied .copy .ensures ∙ two (asked .before .before .before) .is
 
 same-length-2 : tie.Need-same-length-2
 same-length-2 c = search needs
 
 returns-2 : tie.Need-returns-2
-returns-2 c = c .before .before .copy2 .ensures ∙ four (c .before .before .before .before .before .before) .is
+returns-2 c =
+    let copied = c .before .before in
+    let asked = copied .before in
+    copied .copy2 .ensures ∙ four (asked .before .before .before) .is
 
 same-length-3 : tie.Need-same-length-3
 same-length-3 c = search needs
 
 returns-3 : tie.Need-returns-3
-returns-3 c = c .before .before .copy3 .ensures ∙ eight (c .before .before .before .before .before .before) .is
+returns-3 c =
+    let copied = c .before .before in
+    let asked = copied .before in
+    copied .copy3 .ensures ∙ eight (asked .before .before .before) .is
 
 same-length-4 : tie.Need-same-length-4
 same-length-4 c = search needs
 
 returns-4 : tie.Need-returns-4
-returns-4 c = c .before .before .copy4 .ensures ∙ sixteen (c .before .before .before .before .before .before) .is
+returns-4 c =
+    let copied = c .before .before in
+    let asked = copied .before in
+    copied .copy4 .ensures ∙ sixteen (asked .before .before .before) .is
 
 same-length-5 : tie.Need-same-length-5
 same-length-5 c = search needs
 
 returns-5 : tie.Need-returns-5
-returns-5 c = c .before .before .copy5 .ensures ∙ thirtytwo (c .before .before .before .before .before .before) .is
+returns-5 c =
+    let copied = c .before .before in
+    let asked = copied .before in
+    copied .copy5 .ensures ∙ thirtytwo (asked .before .before .before) .is
 
 pub fill-scan-spec : {M : Type 1} → statement M
 fill-scan-spec =

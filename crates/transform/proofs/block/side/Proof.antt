@@ -19,10 +19,10 @@ returns-4 : tie.Need-returns-4
 returns-4 c = (ap (λ (l : ℕ). 2 ^ l) (sym (c .if4 .taken)), omega arith)
 
 returns-5 : tie.Need-returns-5
-returns-5 c = (
-  ap (λ (l : ℕ). 2 ^ l) (sym (let five : c .before .before .before .before .args .log2 ≡ 5 = omega arith in five)),
-  omega arith,
-)
+returns-5 c =
+    let a = c .before .before .before .before .args in
+    let five : a .log2 ≡ 5 = omega arith in
+    (ap (λ (l : ℕ). 2 ^ l) (sym five), omega arith)
 
 pub side-spec : {M : Type 1} → statement M
 side-spec = tie.close (tie.spec returns returns-2 returns-3 returns-4 returns-5)

@@ -4,7 +4,7 @@ use mathlib.Core.Path.{sym}
 use native.Mathlib.Omega.{arith}
 use borrow.Author.Needs.{needs}
 use lib.ListN.{length}
-use Rattle.transform.proofs.OddHalf.{noughts-part}
+use Rattle.butterfly.proofs.OddHalf.{noughts-part}
 use Rattle.transform.proofs.Whole.{at-most-1024}
 use Rattle.transform.proofs.block.transform.Statement.{statement}
 use Rattle.transform.proofs.block.transform.Tie as tie

@@ -1,15 +1,22 @@
 -- `walk::Walk::step` meets its contract: 0 is kept, or the offer is taken, and then the cut behind it is the cheapest
 -- so far or is not.
 -- Assumes nothing.
-use mathlib.Core.Path.{refl, _∙_}
-use Prim.Native.Nat.{_≤_}
+use mathlib.Core.Path.{refl, sym, subst, _∙_}
+use Prim.Native.Nat.{ℕ, _≤_}
 use native.Mathlib.Omega.{arith}
 use borrow.Author.Needs.{needs}
-use Rattle.rule.specs.Prices.{ruleBy}
-use Rattle.walk.specs.Walking.{totalsOf}
+use Rattle.weights.specs.Inner.Prices.{ruleBy}
+use Rattle.walk.specs.Inner.Walking.{totalsOf}
 use Rattle.walk.proofs.Weighing.{stays, goes, moves, goes-on}
 use Rattle.walk.proofs.Walk.step.Statement.{statement}
 use Rattle.walk.proofs.Walk.step.Tie as tie
+
+-- the call's inputs, from where the errors are known, and where the offer is taken
+abbrev start : tie.After-squared-below → tie.Start
+start c = c .before .before
+
+abbrev taking : tie.After-struct-known4 → tie.Else1
+taking c = c .before .before
 
 make-offer-requires : tie.Need-make-offer-requires
 make-offer-requires c κs = search needs
@@ -34,13 +41,16 @@ add-t14 c = search needs
 
 returns : tie.Need-returns
 returns c =
-    let s = c .before .before .before .before .before .before .before in
+    let head = c .before .before .before in
+    let zero = head .before in
+    let below = zero .before in
+    let s = start below in
     let a = s .args in
-    let o = c .before .before .before .before .before .before .make-offer .ensures in
-    let d = c .before .before .before .before .before .squared-below .ensures .is in
-    let z = c .before .before .before .before .zero-at .ensures .0 in
-    let h = c .before .before .before .head-at .ensures .0 in
-    let b : c .before .before .before .before .before .squared-below .result ≤ a .self .base = rw d (s .pre .left) in
+    let o = below .before .make-offer .ensures in
+    let d = below .squared-below .ensures .is in
+    let z = zero .zero-at .ensures .0 in
+    let h = head .head-at .ensures .0 in
+    let b = subst (λ (x : ℕ). x ≤ a .self .base) (sym d) (s .pre .left) in
     stays (a .p) (a .g) (a .n) (totalsOf (a .self)) (a .l) _ o _ _ _ _ d z h refl (s .pre .some)
     (omega (arith, c .before .if1 .taken)) b
 
@@ -65,28 +75,36 @@ add-t18 c = search needs
 returns-2 : tie.Need-returns-2
 unfolding ruleBy
 returns-2 c =
-    let s = c .before .before .before .before .before .before .before .before .before .before .before in
+    let taken = taking (c .before .before .before) in
+    let head = taken .before .before in
+    let zero = head .before in
+    let below = zero .before in
+    let s = start below in
     let a = s .args in
-    let o = c .before .before .before .before .before .before .before .before .before .before .make-offer .ensures in
-    let d = c .before .before .before .before .before .before .before .before .before .squared-below .ensures .is in
-    let z = c .before .before .before .before .before .before .before .before .zero-at .ensures .0 in
-    let h = c .before .before .before .before .before .before .before .head-at .ensures .0 in
+    let o = below .before .make-offer .ensures in
+    let d = below .squared-below .ensures .is in
+    let z = zero .zero-at .ensures .0 in
+    let h = head .head-at .ensures .0 in
     moves (ruleBy (a .p) (a .g)) (a .n) (totalsOf (a .self)) _ _ _ (o .some) (c .before .if2 .taken)
     ∙ goes (a .p) (a .g) (a .n) (totalsOf (a .self)) (a .l) _ o _ _ _ _ d z h refl (s .pre .some)
-    (c .before .before .before .before .before .if1 .left)
+    (taken .if1 .left)
 
 returns-3 : tie.Need-returns-3
 unfolding ruleBy
 returns-3 c =
-    let s = c .before .before .before .before .before .before .before .before .before .before .before in
+    let taken = taking (c .before .before .before) in
+    let head = taken .before .before in
+    let zero = head .before in
+    let below = zero .before in
+    let s = start below in
     let a = s .args in
-    let o = c .before .before .before .before .before .before .before .before .before .before .make-offer .ensures in
-    let d = c .before .before .before .before .before .before .before .before .before .squared-below .ensures .is in
-    let z = c .before .before .before .before .before .before .before .before .zero-at .ensures .0 in
-    let h = c .before .before .before .before .before .before .before .head-at .ensures .0 in
+    let o = below .before .make-offer .ensures in
+    let d = below .squared-below .ensures .is in
+    let z = zero .zero-at .ensures .0 in
+    let h = head .head-at .ensures .0 in
     goes-on (ruleBy (a .p) (a .g)) (a .n) (totalsOf (a .self)) _ _ _ (o .some) (c .before .if2 .left)
     ∙ goes (a .p) (a .g) (a .n) (totalsOf (a .self)) (a .l) _ o _ _ _ _ d z h refl (s .pre .some)
-    (c .before .before .before .before .before .if1 .left)
+    (taken .if1 .left)
 
 pub step-spec : {M : Type 1} → statement M
 step-spec =

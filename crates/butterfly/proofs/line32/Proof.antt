@@ -1,0 +1,88 @@
+-- `butterfly::line32` meets its contract: one level over the row of half the side.
+-- Assumes nothing.
+use native.Mathlib.Omega.{arith}
+use borrow.Author.Needs.{needs}
+use Rattle.butterfly.proofs.Line.{fold-asks, odd-half-asks, sums-ask, row-held}
+use Rattle.butterfly.proofs.line32.Statement.{statement}
+use Rattle.butterfly.proofs.line32.Tie as tie
+
+-- the call's inputs, and the calls before each call
+abbrev start : tie.After-fold → tie.Start
+start c = c .before .before .before
+
+abbrev folded : tie.After-odd-half → tie.After-fold
+folded c = c .before .before .before .before .before .before
+
+abbrev gathered : tie.After-put → tie.After-odd-half
+gathered c = c .before .before .before .before
+
+slice-aggregate-fold : tie.Need-slice-aggregate-fold
+slice-aggregate-fold c = search needs
+
+slice-aggregate-fold-2 : tie.Need-slice-aggregate-fold-2
+slice-aggregate-fold-2 c = search needs
+
+fold-requires : tie.Need-fold-requires
+fold-requires c κs =
+    let s = c .before .before in fold-asks 4 (omega arith) (s .args .x .now) (s .pre .0 .0) (s .pre .0 .2)
+
+slice-aggregate-odd-half : tie.Need-slice-aggregate-odd-half
+slice-aggregate-odd-half c = search needs
+
+slice-aggregate-odd-half-2 : tie.Need-slice-aggregate-odd-half-2
+slice-aggregate-odd-half-2 c = search needs
+
+odd-half-requires : tie.Need-odd-half-requires
+odd-half-requires c κs =
+    let f = c .before .before .before .before .before in
+    let s = start f in
+    odd-half-asks 4 (omega arith) (s .args .x .now) (s .pre .0 .0) (s .pre .0 .2) (f .fold .last .1 .0)
+    (f .fold .last .1 .1 .0) (omega arith) (omega arith) (f .fold .ensures) (s .args .t16 .now) (s .pre .1 .0)
+
+slice-aggregate-put : tie.Need-slice-aggregate-put
+slice-aggregate-put c = search needs
+
+put-requires : tie.Need-put-requires
+put-requires c κs = search needs
+
+slice-aggregate-line16 : tie.Need-slice-aggregate-line16
+slice-aggregate-line16 c = search needs
+
+line16-requires : tie.Need-line16-requires
+line16-requires c κs =
+    let f = folded (gathered (c .before .before .before)) in
+    let s = start f in
+    let r = sums-ask 4 (omega arith) (s .args .x .now) (s .pre .0 .0) (s .pre .0 .2) (f .fold .last .1 .0)
+    (f .fold .last .1 .1 .0) (omega arith) (omega arith) (f .fold .ensures) in
+    ((omega arith, omega arith, r), (s .pre .1 .1, s .pre .1 .2, s .pre .1 .3))
+
+same-length : tie.Need-same-length
+same-length c = search needs
+
+returns : tie.Need-returns
+returns c =
+    let p = c .before .before .before .before .before in
+    let b = gathered p .odd-half in
+    let f = folded (gathered p) in
+    let s = start f in
+    row-held 4 (omega arith) (s .args .x .now) (s .pre .0 .0) (s .pre .0 .2) (f .fold .last .1 .0)
+    (f .fold .last .1 .1 .0) (omega arith) (omega arith) (f .fold .ensures) (s .args .t16 .now) (s .pre .1 .0)
+    (b .last .1 .1 .0) (b .ensures) (s .args .row .now) (p .put .last .1 .0) _ (omega arith) (p .put .ensures)
+    (c .before .line16 .ensures)
+
+pub line32-spec : {M : Type 1} → statement M
+line32-spec =
+    tie.close
+    (tie.spec
+    slice-aggregate-fold
+    slice-aggregate-fold-2
+    fold-requires
+    slice-aggregate-odd-half
+    slice-aggregate-odd-half-2
+    odd-half-requires
+    slice-aggregate-put
+    put-requires
+    slice-aggregate-line16
+    line16-requires
+    same-length
+    returns)

@@ -1,0 +1,135 @@
+-- `butterfly::odd_half` meets its contract: before the turn n each output has gained n products.
+-- Assumes nothing.
+use mathlib.Core.Path.{_≡_, refl, sym, _∙_, ap}
+use Prim.Native.Nat.{ℕ, _-_, _<_, _≤_}
+use native.Mathlib.Omega.{arith}
+use borrow.Author.Needs.{sfits-of}
+use lib.ListN.{length}
+use mir.Syntax.{w32}
+use mir.Facts.{toZ-ofZ}
+use Rattle.integers.specs.Sum.{at}
+use Rattle.butterfly.specs.Inner.Lines.{gained}
+use Rattle.butterfly.proofs.OddHalf.{gained-none, column-ends, column-inside, column-length, turn-fits}
+use Rattle.butterfly.proofs.OddHalf.{turn-gains}
+use Rattle.butterfly.proofs.odd_half.Statement.{statement}
+use Rattle.butterfly.proofs.odd_half.Tie as tie
+
+abbrev Inv-loop : tie.InvT-loop
+Inv-loop t o b₀ h n₀ b n = (n ≤ length o) × (length b ≡ length b₀) × ((k : ℕ) → k < length b₀ → at b k ≡ gained t o n k)
+
+abbrev μ-loop : tie.MeasureT-loop
+μ-loop t o b₀ h n₀ b n = length o - n
+
+loop-holds : tie.Need-loop-holds Inv-loop μ-loop
+loop-holds c = (omega arith, refl, λ k h. c .pre .1 .0 k ∙ sym (gained-none (c .args .t .now) (c .args .o .now) k))
+
+mul-v : tie.Need-mul-v Inv-loop μ-loop
+mul-v c = omega arith
+
+shared-slice-copy-out-v : tie.Need-shared-slice-copy-out-v Inv-loop μ-loop
+shared-slice-copy-out-v c = omega arith
+
+mul-r : tie.Need-mul-r Inv-loop μ-loop
+mul-r c = omega (
+  arith,
+  column-ends (c .before .before .loop .n) (length (c .before .before .before .args .o .now))
+      (omega arith) (omega arith),
+)
+
+add-e : tie.Need-add-e Inv-loop μ-loop
+add-e c = omega (
+  arith,
+  column-ends (c .before .before .loop .n) (length (c .before .before .before .args .o .now))
+      (omega arith) (omega arith),
+)
+
+mul-add-times : tie.Need-mul-add-times Inv-loop μ-loop
+mul-add-times c =
+    omega (
+      arith,
+      column-ends (c .before .before .loop .n) (length (c .before .before .before .args .o .now))
+          (omega arith) (omega arith),
+    )
+
+sub-add-times : tie.Need-sub-add-times Inv-loop μ-loop
+sub-add-times c =
+    omega (
+      arith,
+      column-ends (c .before .before .loop .n) (length (c .before .before .before .args .o .now))
+          (omega arith) (omega arith),
+    )
+
+part-add-times-start : tie.Need-part-add-times-start Inv-loop μ-loop
+part-add-times-start c = omega arith
+
+part-add-times-end : tie.Need-part-add-times-end Inv-loop μ-loop
+part-add-times-end c =
+    let a = c .before .before .before in
+    omega (
+      arith,
+      column-inside (c .before .before .loop .n) (length (a .args .o .now)) (length (a .args .t .now))
+          (omega arith) (a .pre .0 .2),
+    )
+
+add-times-requires : tie.Need-add-times-requires Inv-loop μ-loop
+add-times-requires c κs =
+    let a = c .before .before .before .before .before in
+    let l = c .before .before .before .before .loop in
+    let f = c .before .before .v .given in (
+      column-length (a .args .t .now) (a .args .o .now) (l .b) (l .n) _ (omega arith) (a .pre .0 .2) (omega arith)
+          (toZ-ofZ {w = w32} (sfits-of f)) (λ k h. l .inv .2 k (omega arith)),
+      λ k h. turn-fits (a .args .t .now) (a .args .o .now) (l .b) (l .n) _ (omega arith) (a .pre .0 .2) (omega arith)
+          (toZ-ofZ {w = w32} (sfits-of f)) (λ k h. l .inv .2 k (omega arith))
+          (λ k h. a .pre .1 .1 k (omega arith)) k (omega arith),
+    )
+
+add-n : tie.Need-add-n Inv-loop μ-loop
+add-n c = omega arith
+
+loop-less : tie.Need-loop-less Inv-loop μ-loop
+loop-less c = omega arith
+
+loop-again : tie.Need-loop-again Inv-loop μ-loop
+loop-again c =
+    let a = c .before .before .before .before .before .before .before in
+    let l = c .before .before .before .before .before .before .loop in
+    let f = c .before .before .before .before .v .given in (
+      omega arith,
+      omega arith,
+      λ k h. c .before .add-times .ensures k (omega arith)
+          ∙ turn-gains (a .args .t .now) (a .args .o .now) (l .b) (l .n) _ (omega arith) (a .pre .0 .2) (omega arith)
+          (toZ-ofZ {w = w32} (sfits-of f)) (λ k h. l .inv .2 k (omega arith)) k (omega arith),
+    )
+
+same-length : tie.Need-same-length Inv-loop μ-loop
+same-length c = c .before .loop .inv .1
+
+returns : tie.Need-returns Inv-loop μ-loop
+returns c =
+    let a = c .before .before in
+    λ k h.
+    c .before .loop .inv .2 k h
+    ∙ ap (λ (m : ℕ). gained (a .args .t .now) (a .args .o .now) m k) (let e : c .before .loop .n
+    ≡ length (a .args .o .now) = omega arith in e)
+
+pub odd-half-spec : {M : Type 1} → statement M
+odd-half-spec =
+    tie.close
+    (tie.spec
+    Inv-loop
+    μ-loop
+    loop-holds
+    mul-v
+    shared-slice-copy-out-v
+    mul-r
+    add-e
+    mul-add-times
+    sub-add-times
+    part-add-times-start
+    part-add-times-end
+    add-times-requires
+    add-n
+    loop-less
+    loop-again
+    same-length
+    returns)

@@ -1,0 +1,11 @@
+pub mod Laid
+pub mod Modes
+pub mod Accepted
+pub mod Promises
+pub mod Bounds
+pub mod Surplus
+pub mod OwnRows
+pub mod TwoModes
+pub mod Cap
+pub mod Coincide
+pub mod Numbers

@@ -1,0 +1,4 @@
+pub mod Lowest
+pub mod Reaching
+pub mod Parts
+pub mod Uncoding

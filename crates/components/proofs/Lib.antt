@@ -1,0 +1,12 @@
+pub mod Numbers
+pub mod Log2
+pub mod Blocks
+pub mod Answer
+pub mod Late
+pub mod Accepted
+pub mod Alone
+pub mod NotRun
+pub mod LumaAlone
+pub mod Coincide
+pub mod TwoModes
+pub mod Cap

@@ -1,0 +1,59 @@
+-- `input::read_at` meets its contract: only the part behind `at` is lent to the read.
+-- Assumes nothing.
+use Prim.Native.Nat.{_≤_}
+use lib.ListN.{length}
+use borrow.Author.Needs.{needs}
+use borrow.Rule.Slice.PartMut.{take-put}
+use Rattle.input.proofs.read_at.Statement.{statement}
+use Rattle.input.proofs.read_at.Tie as tie
+
+sub-read : tie.Need-sub-read
+sub-read c = search needs
+
+part-read-start : tie.Need-part-read-start
+part-read-start c = search needs
+
+part-read-end : tie.Need-part-read-end
+part-read-end c = search needs
+
+read-requires : tie.Need-read-requires
+read-requires c κs = search needs
+
+sub-count : tie.Need-sub-count
+sub-count c = search needs
+
+part-count-start : tie.Need-part-count-start
+part-count-start c = search needs
+
+part-count-end : tie.Need-part-count-end
+part-count-end c = search needs
+
+count-requires : tie.Need-count-requires
+count-requires c κs = search needs
+
+same-length : tie.Need-same-length
+same-length c = search needs
+
+-- the read, whose bytes were counted after it
+abbrev read : tie.After-count → tie.After-read
+read c = let shared = c .before .before .before in shared .before .before
+
+returns : tie.Need-returns
+returns c =
+    let a = read c .before .before .before .args in
+    (search needs, let h : a .at ≤ length (a .buf .now) = search needs in rw take-put)
+
+pub read-at-spec : {M : Type 1} → statement M
+read-at-spec =
+    tie.close
+    (tie.spec
+    sub-read
+    part-read-start
+    part-read-end
+    read-requires
+    sub-count
+    part-count-start
+    part-count-end
+    count-requires
+    same-length
+    returns)

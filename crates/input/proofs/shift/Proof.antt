@@ -1,0 +1,75 @@
+-- `input::shift` meets its contract: a byte at a turn, from the front.
+-- Assumes nothing.
+use mathlib.Core.Path.{_≡_}
+use Prim.Native.Nat.{_≤_, _-_}
+use native.Mathlib.Omega.{arith}
+use lib.ListN.{length}
+use borrow.Author.Needs.{needs}
+use Rattle.input.proofs.Moved.{moved, moved-on, moved-all}
+use Rattle.input.proofs.shift.Statement.{statement}
+use Rattle.input.proofs.shift.Tie as tie
+
+abbrev Inv-loop : tie.InvT-loop
+Inv-loop buf₀ from have n i₀ buf i =
+    (n ≡ have - from) × (i ≤ n) × (length buf ≡ length buf₀) × (buf ≡ moved buf₀ from i)
+
+abbrev μ-loop : tie.MeasureT-loop
+μ-loop buf₀ from have n i₀ buf i = n - i
+
+sub-n : tie.Need-sub-n Inv-loop μ-loop
+sub-n c = search needs
+
+loop-holds : tie.Need-loop-holds Inv-loop μ-loop
+loop-holds c = search needs
+
+add-buf : tie.Need-add-buf Inv-loop μ-loop
+add-buf c = search needs
+
+slice-read-buf : tie.Need-slice-read-buf Inv-loop μ-loop
+slice-read-buf c = search needs
+
+slice-write-buf : tie.Need-slice-write-buf Inv-loop μ-loop
+slice-write-buf c = search needs
+
+add-i : tie.Need-add-i Inv-loop μ-loop
+add-i c = search needs
+
+loop-less : tie.Need-loop-less Inv-loop μ-loop
+loop-less c = search needs
+
+loop-again : tie.Need-loop-again Inv-loop μ-loop
+loop-again c = (
+  search needs,
+  search needs,
+  search needs,
+  rw (c .before .before .loop .inv .3)
+      (moved-on (c .before .before .before .args .buf .now) (c .before .before .before .args .from)
+      (c .before .before .loop .i) (omega arith)),
+)
+
+same-length : tie.Need-same-length Inv-loop μ-loop
+same-length c = search needs
+
+returns : tie.Need-returns Inv-loop μ-loop
+returns c =
+    let e : c .before .loop .i ≡ c .before .before .args .have - c .before .before .args .from = omega arith in
+    rw (c .before .loop .inv .3, e)
+    (moved-all (c .before .before .args .buf .now) (c .before .before .args .from) (c .before .before .args .have)
+    (search needs) (search needs))
+
+pub shift-spec : {M : Type 1} → statement M
+shift-spec =
+    tie.close
+    (tie.spec
+    Inv-loop
+    μ-loop
+    sub-n
+    loop-holds
+    add-buf
+    slice-read-buf
+    slice-write-buf
+    add-i
+    loop-less
+    loop-again
+    same-length
+    returns)

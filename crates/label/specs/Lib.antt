@@ -1,2 +1,0 @@
-pub mod Fate
-pub mod Picture

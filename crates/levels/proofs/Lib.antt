@@ -1,0 +1,4 @@
+pub mod Samples
+pub mod Signing
+pub mod Keeping
+pub mod Coding

@@ -1,0 +1,70 @@
+-- `requests::request::read_head` meets its contract: the kinds are the verb's.
+-- Assumes nothing.
+use mathlib.Core.Path.{sym, subst}
+use borrow.Author.Needs.{needs}
+use Rattle.verbs.specs.declared.Verb.{Verb}
+use Rattle.requests.specs.Request.{kindsOf, Within}
+use Rattle.requests.proofs.request.read_head.Statement.{statement}
+use Rattle.requests.proofs.request.read_head.Tie as tie
+
+enum-told : tie.Need-enum-told
+enum-told c = search needs
+
+slice-aggregate-read-fields : tie.Need-slice-aggregate-read-fields
+slice-aggregate-read-fields c = search needs
+
+read-fields-requires : tie.Need-read-fields-requires
+read-fields-requires c κs = search needs
+
+enum-told-2 : tie.Need-enum-told-2
+enum-told-2 c = search needs
+
+slice-aggregate-read-fields-2 : tie.Need-slice-aggregate-read-fields-2
+slice-aggregate-read-fields-2 c = search needs
+
+read-fields-requires-2 : tie.Need-read-fields-requires-2
+read-fields-requires-2 c κs = search needs
+
+enum-told-3 : tie.Need-enum-told-3
+enum-told-3 c = search needs
+
+slice-aggregate-read-fields-3 : tie.Need-slice-aggregate-read-fields-3
+slice-aggregate-read-fields-3 c = search needs
+
+read-fields-requires-3 : tie.Need-read-fields-requires-3
+read-fields-requires-3 c κs = search needs
+
+returns : tie.Need-returns
+returns c =
+    let r = c .read-fields in
+    subst (λ (v : Verb). Within (r .result) (kindsOf v) (r .last .1 .1 .1 .0))
+    (sym (c .before .before .before .enum-told .given .1)) (r .ensures)
+
+returns-2 : tie.Need-returns-2
+returns-2 c =
+    let r = c .read-fields2 in
+    subst (λ (v : Verb). Within (r .result) (kindsOf v) (r .last .1 .1 .1 .0))
+    (sym (c .before .before .before .enum-told2 .given .1)) (r .ensures)
+
+returns-3 : tie.Need-returns-3
+returns-3 c =
+    let r = c .read-fields3 in
+    subst (λ (v : Verb). Within (r .result) (kindsOf v) (r .last .1 .1 .1 .0))
+    (sym (c .before .before .before .enum-told3 .given .1)) (r .ensures)
+
+pub read-head-spec : {M : Type 1} → statement M
+read-head-spec =
+    tie.close
+    (tie.spec
+    enum-told
+    slice-aggregate-read-fields
+    read-fields-requires
+    enum-told-2
+    slice-aggregate-read-fields-2
+    read-fields-requires-2
+    enum-told-3
+    slice-aggregate-read-fields-3
+    read-fields-requires-3
+    returns
+    returns-2
+    returns-3)

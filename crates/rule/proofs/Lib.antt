@@ -1,6 +1,0 @@
-pub mod Scaling
-pub mod Squaring
-pub mod Pricing
-pub mod Offering
-pub mod Places
-pub mod Filling

@@ -1,0 +1,119 @@
+-- What the functions of the search say to one another: least prices as code holds them, one place passed or weighed,
+-- what is chosen for each place, and the block that is read off. The search itself is specs/Search.antt of `price`.
+use mathlib.Core.Path.{_≡_}
+use mathlib.Core.Bool.{true, false, cond}
+use mathlib.Core.List.{List}
+use Prim.Native.Nat.{ℕ, zero, suc, _+_, _-_, _*_, _^_, _≤_, _<_}
+use lib.Dec.{ltb}
+use lib.ListN.{length, getD, drop}
+use Rattle.price.specs.Level.{nearest, distortion}
+use Rattle.price.specs.Rule.{isZero}
+use Rattle.price.specs.Price.{uncoded}
+use Rattle.price.specs.Inner.Search.{Least, none, some, ahead, taken, goesOn, readOff}
+use Rattle.weights.specs.declared.scale.Scale.{Scale}
+use Rattle.weights.specs.declared.prices.Prices.{Prices}
+use Rattle.weights.specs.Inner.Scale.{Sound}
+use Rattle.weights.specs.Inner.Prices.{Modest, Fine, ruleBy}
+use Rattle.weights.specs.Inner.Offers.{bare, offered}
+use Rattle.weights.specs.Inner.Places.{keptAt, keptPlaces, Weighable, Standing}
+use Rattle.search.specs.declared.place.Ahead.{Ahead}
+use Rattle.search.specs.declared.place.Choice.{Choice}
+use Rattle.search.specs.declared.place.Weighed.{Weighed}
+
+-- ---- one place
+-- 0 at the price x, or a at the price y where that is strictly less
+pub record ChosenOf (x y a : ℕ) (r : Choice) : Type 0 where
+  pub level : r .level ≡ cond (ltb y x) a 0
+  pub price : r .price ≡ cond (ltb y x) y x
+
+-- there is room for one place more
+pub record Passable (p : Prices) (t : Ahead) : Type 0 where
+  pub modest : Modest p
+  pub zero : t .zero ≤ 2 ^ 63 + 2 ^ 61
+
+abbrev pub passedBy : Prices → Ahead → Ahead
+passedBy p t = record { zero = t .zero + p .zeros; level = t .zero + p .zero; rest = t .rest }
+
+pub record Ready (p : Prices) (g : Scale) (t : Ahead) (L : ℕ) : Type 0 where
+  pub modest : Modest p
+  pub sound : Sound g
+  pub fine : Fine p g L
+  pub some : 1 ≤ nearest (g .shift) L
+  pub zero : t .zero ≤ 2 ^ 63 + 2 ^ 61
+  pub level : t .level ≤ 2 ^ 63 + 2 ^ 61
+  pub rest : t .rest ≤ 2 ^ 60
+
+-- the price behind a nonzero level: it is the last one, unless going on is strictly cheaper
+abbrev pub behindBy : Prices → Ahead → ℕ
+behindBy p t = cond (ltb (t .level + p .more) (t .rest + p .last)) (t .level + p .more) (t .rest + p .last)
+
+-- a 0 at the place, and the offer there, but for what depends on the level before
+abbrev pub zeroBy : Scale → Ahead → ℕ → ℕ
+zeroBy g t L = t .zero + distortion (g .shift) (g .error) L 0
+
+abbrev pub levelBy : Prices → Scale → Ahead → ℕ → ℕ
+levelBy p g t L = behindBy p t + bare p g L (offered true p g L)
+
+pub record WeighedBy (p : Prices) (g : Scale) (t : Ahead) (L : ℕ) (r : Weighed) : Type 0 where
+  pub zero : ChosenOf (zeroBy g t L + p .zeros) (levelBy p g t L + p .heads) (offered true p g L)
+      (record { level = r .zero; price = r .ahead .zero })
+  pub level : ChosenOf (zeroBy g t L + p .zero) (levelBy p g t L + p .head) (offered true p g L)
+      (record { level = r .level; price = r .ahead .level })
+  pub rest : r .ahead .rest ≡ t .rest + distortion (g .shift) (g .error) L 0
+  pub on : r .on ≡ cond (ltb (t .level + p .more) (t .rest + p .last)) 1 0
+  pub offer : (1 ≤ offered true p g L) × (bare p g L (offered true p g L) ≤ 2 ^ 61 + 2 ^ 59)
+  pub small : (r .zero ≤ 32767) × (r .level ≤ 32767) × (r .on ≤ 1)
+
+-- ---- back along the scan
+-- a least price as code holds it, where n places are done: none is 2^63 and more
+abbrev pub Holds : ℕ → Least → ℕ → Type 0
+Holds n none v = (2 ^ 63 ≤ v) × (v ≤ 2 ^ 63 + n * 2 ^ 48)
+Holds n (some x) v = (v ≡ x) × (x ≤ 2 ^ 62 + n * 2 ^ 48)
+
+-- what is known of the places ps, where n places are done
+pub record Held (p : Prices) (g : Scale) (n : ℕ) (ps : List ℕ) (t : Ahead) : Type 0 where
+  pub zero : Holds n (ahead (ruleBy p g) ps .afterZero) (t .zero)
+  pub level : Holds n (ahead (ruleBy p g) ps .afterLevel) (t .level)
+  pub rest : t .rest ≡ uncoded (ruleBy p g) ps
+
+-- the places from n on, and what is known of them
+abbrev pub from : Scale → (w h : ℕ) → List ℕ → ℕ → List ℕ
+from g w h kept n = drop n (keptPlaces g w h kept)
+
+abbrev pub Known : (p : Prices) (g : Scale) (w h : ℕ) (kept : List ℕ) (n : ℕ) (t : Ahead) → Type 0
+Known p g w h kept n t = Held p g (w * h - n) (from g w h kept n) t
+
+-- nothing is kept from `end` on
+pub record Ends (w h : ℕ) (kept : List ℕ) (end : ℕ) : Type 0 where
+  pub within : end ≤ w * h
+  pub tail : (k : ℕ) → end ≤ k → k < w * h → keptAt w h kept k ≡ 0
+
+pub record Sought (p : Prices) (g : Scale) (w h : ℕ) (kept : List ℕ) : Type 0 where
+  pub weighable : Weighable p g w h kept
+  pub small : uncoded (ruleBy p g) (keptPlaces g w h kept) ≤ 2 ^ 60
+
+-- what is chosen at each place from n to `end`: the magnitude taken after a 0 and after a nonzero level, and whether a
+-- nonzero one goes on
+pub record Decided (p : Prices) (g : Scale) (w h : ℕ) (kept : List ℕ) (n end : ℕ)
+    (afterZero afterLevel ons : List ℕ) : Type 0 where
+  pub zero : (k : ℕ) → n ≤ k → k < end
+      → getD afterZero k 0 ≡ taken (ruleBy p g) true (getD (keptPlaces g w h kept) k 0) (from g w h kept (suc k))
+      (ahead (ruleBy p g) (from g w h kept (suc k)))
+  pub level : (k : ℕ) → n ≤ k → k < end
+      → getD afterLevel k 0 ≡ taken (ruleBy p g) false (getD (keptPlaces g w h kept) k 0) (from g w h kept (suc k))
+      (ahead (ruleBy p g) (from g w h kept (suc k)))
+  pub on : (k : ℕ) → n ≤ k → k < end → 1 ≤ keptAt w h kept k
+      → getD ons k 0
+      ≡ cond (goesOn (ruleBy p g) (from g w h kept (suc k)) (ahead (ruleBy p g) (from g w h kept (suc k)))) 1 0
+
+-- ---- forth
+-- how many places are read off, once place n has taken a
+abbrev pub stopWith : (a on n stop : ℕ) → ℕ
+stopWith a on n stop = cond (isZero a) stop (cond (isZero on) (n + 1) stop)
+
+-- what is read off where that is chosen
+abbrev pub ReadOff : (w h end : ℕ) (afterZero afterLevel on after : List ℕ) → Type 0
+ReadOff w h end afterZero afterLevel on after =
+    (p : Prices) (g : Scale) (kept : List ℕ) → Sound g → Ends w h kept end
+    → Decided p g w h kept 0 end afterZero afterLevel on
+    → (length after ≡ w * h) × Standing w h after (readOff (ruleBy p g) false (keptPlaces g w h kept))

@@ -1,0 +1,56 @@
+// One component: its residuals transformed and quantised in place, if it is run.
+use admission::is_run;
+use admission::settings_of;
+use coding::Coded;
+use coding::Coding;
+use coding::QuantAnswer;
+use components::Request;
+use quantise::quant_nnz;
+use refusals::Component;
+use transform::TransAnswer;
+use transform::trans;
+ghost use mathlib.Core.Path.{_≡_};
+ghost use Prim.Native.Nat.{_≤_};
+ghost use Rattle.coding.specs.Call.{quantOutcome};
+ghost use Rattle.components.specs.Call.{log2Of};
+ghost use Rattle.stretch.specs.Inner.Part.{Ready, partAnswer, partLeft};
+
+// A component's log2 side, by luma's.
+fn log2_of(log2_luma: usize, component: Component) -> usize
+    requires { ⌜ 1 ≤ «log2_luma» ⌝ }
+    ensures { λ r. ⌜ r ≡ log2Of component «log2_luma» ⌝ }
+{
+    match component {
+        Component::Y => log2_luma,
+        Component::U => log2_luma - 1,
+        Component::V => log2_luma - 1,
+    }
+}
+
+pub fn code_component(part: &mut [i16], q: Request, component: Component) -> QuantAnswer
+    requires { ⌜ Ready component q (now part) ⌝ }
+    ensures answer { λ r. ⌜ quantOutcome r ≡ partAnswer component q (now (part .entry)) ⌝ }
+    ensures buffer { λ _. ⌜ now (part .exit) ≡ partLeft component q (now (part .entry)) ⌝ }
+{
+    if is_run(q.run, component) {
+        let log2 = log2_of(q.log2_luma, component);
+        let settings = settings_of(q, component);
+        let costs = q.costs;
+        let mode = q.mode;
+        let coding = Coding {
+            log2: log2,
+            component: component,
+            settings: settings,
+            intra_slice: q.intra_slice,
+            intra_coded: q.intra_coded,
+            costs: costs,
+            mode: mode,
+        };
+        let t = trans(part, log2, log2);
+        return match t {
+            TransAnswer::Refused(why) => QuantAnswer::Refused(why, component),
+            TransAnswer::Accepted => quant_nnz(part, coding),
+        };
+    }
+    QuantAnswer::Coded(Coded { count: 0, price: 0 })
+}
