@@ -1,7 +1,7 @@
 -- The cheapest block of all: among all blocks whose magnitudes are each 0, m, or m - 1 where m is at least 2, the one
 -- of least price; at equal price the one whose magnitudes in scan order come first in dictionary order. All blocks are
--- listed in that order here, so it is the first of least price. specs/Search.antt says how it is found without the
--- list.
+-- listed in that order here, so it is the first of least price. specs/Inner/Search.antt says how it is found without
+-- the list.
 use mathlib.Core.List.{List, [], _∷_, _++_, map}
 use Prim.Native.Nat.{ℕ, zero, suc}
 use Rattle.price.specs.Rule.{Rule}

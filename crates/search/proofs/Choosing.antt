@@ -20,10 +20,11 @@ use Rattle.weights.specs.declared.prices.Prices.{Prices}
 use Rattle.weights.specs.Inner.Prices.{zeroPrice, headPrice, rateBy, ruleBy}
 use Rattle.weights.specs.Inner.Offers.{bare, offered}
 use Rattle.weights.proofs.Offering.{same-offer, cost-by}
-use Rattle.search.specs.declared.place.Ahead.{Ahead}
-use Rattle.search.specs.declared.place.Choice.{Choice}
-use Rattle.search.specs.declared.place.Weighed.{Weighed}
-use Rattle.search.specs.Inner.Searching.{ChosenOf, Ready, behindBy, zeroBy, levelBy, WeighedBy, Holds, Held}
+use Rattle.ahead.specs.declared.Ahead.{Ahead}
+use Rattle.ahead.specs.declared.Choice.{Choice}
+use Rattle.ahead.specs.declared.Weighed.{Weighed}
+use Rattle.ahead.specs.Inner.Ahead.{ChosenOf, Ready, behindBy, zeroBy, levelBy, WeighedBy}
+use Rattle.search.specs.Inner.Searching.{Holds, Held}
 use Rattle.search.proofs.Holding.{As, as-held, as-plus, under-some, some-under, lesser-some, some-lesser, lower}
 
 -- the cheaper of the nonzero magnitudes does not depend on the level before

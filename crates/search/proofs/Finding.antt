@@ -21,7 +21,7 @@ use Rattle.weights.specs.declared.prices.Prices.{Prices}
 use Rattle.weights.specs.Inner.Prices.{ruleBy}
 use Rattle.weights.specs.Inner.Places.{keptPlaces, Standing}
 use Rattle.weights.specs.Inner.Choosing.{Choosable, ChosenBy}
-use Rattle.search.specs.declared.place.Ahead.{Ahead}
+use Rattle.ahead.specs.declared.Ahead.{Ahead}
 use Rattle.search.specs.Inner.Searching.{Holds, Known}
 use Rattle.search.proofs.Reading.{empty-at}
 

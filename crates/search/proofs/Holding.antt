@@ -20,8 +20,9 @@ use Rattle.weights.specs.Inner.Scale.{Sound}
 use Rattle.weights.specs.Inner.Prices.{Modest, zeroPrice, rateBy, ruleBy}
 use Rattle.weights.proofs.Scaling.{nearest-of-0}
 use Rattle.weights.proofs.Places.{nothing-uncoded}
-use Rattle.search.specs.declared.place.Ahead.{Ahead}
-use Rattle.search.specs.Inner.Searching.{passedBy, Holds, Held}
+use Rattle.ahead.specs.declared.Ahead.{Ahead}
+use Rattle.ahead.specs.Inner.Ahead.{passedBy}
+use Rattle.search.specs.Inner.Searching.{Holds, Held}
 
 -- ---- the least price x, held as v
 abbrev pub As : Least → ℕ → Type 0

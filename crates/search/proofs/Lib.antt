@@ -1,4 +1,3 @@
-pub mod Weighing
 pub mod Holding
 pub mod Choosing
 pub mod Looking

@@ -18,9 +18,10 @@ use Rattle.weights.specs.declared.prices.Prices.{Prices}
 use Rattle.weights.specs.Inner.Prices.{ruleBy}
 use Rattle.weights.specs.Inner.Places.{keptAt, keptPlaces, Scanned}
 use Rattle.weights.proofs.Places.{places-count, place-at}
-use Rattle.search.specs.declared.place.Ahead.{Ahead}
-use Rattle.search.specs.declared.place.Weighed.{Weighed}
-use Rattle.search.specs.Inner.Searching.{Passable, passedBy, Ready, WeighedBy, Held, from, Known, Ends, Sought}
+use Rattle.ahead.specs.declared.Ahead.{Ahead}
+use Rattle.ahead.specs.declared.Weighed.{Weighed}
+use Rattle.ahead.specs.Inner.Ahead.{Passable, passedBy, Ready, WeighedBy}
+use Rattle.search.specs.Inner.Searching.{Held, from, Known, Ends, Sought}
 use Rattle.search.specs.Inner.Searching.{Decided}
 use Rattle.search.proofs.Holding.{held-small, passed-taken, passed-held, none-held}
 use Rattle.search.proofs.Choosing.{weighed-zero, weighed-level, weighed-on, weighed-held}

@@ -13,7 +13,6 @@ ghost use Rattle.price.specs.Cheapest.{cheapest};
 ghost use Rattle.weights.specs.Inner.Choosing.{Choosable, ChosenBy};
 
 mod passes;
-mod place;
 
 // The cheapest block of what is kept, found in three rooms that have the block's length, and its price where the
 // block's D is d.

@@ -1,5 +1,5 @@
 // The two passes: back along the scan, noting what to choose at each place, and forth, reading it off.
-use crate::place::Ahead;
+use ahead::Ahead;
 use tables::scan::block_place;
 use tables::scan::magnitude_at;
 use tables::scan::put_magnitude;

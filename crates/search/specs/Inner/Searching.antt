@@ -1,68 +1,19 @@
--- What the functions of the search say to one another: least prices as code holds them, one place passed or weighed,
--- what is chosen for each place, and the block that is read off. The search itself is specs/Search.antt of `price`.
+-- What the functions of the search say to one another: least prices as code holds them, what is chosen for each place,
+-- and the block that is read off. The search itself is specs/Inner/Search.antt of `price`, one place of it `ahead`.
 use mathlib.Core.Path.{_≡_}
 use mathlib.Core.Bool.{true, false, cond}
 use mathlib.Core.List.{List}
 use Prim.Native.Nat.{ℕ, zero, suc, _+_, _-_, _*_, _^_, _≤_, _<_}
-use lib.Dec.{ltb}
 use lib.ListN.{length, getD, drop}
-use Rattle.price.specs.Level.{nearest, distortion}
 use Rattle.price.specs.Rule.{isZero}
 use Rattle.price.specs.Price.{uncoded}
 use Rattle.price.specs.Inner.Search.{Least, none, some, ahead, taken, goesOn, readOff}
 use Rattle.weights.specs.declared.scale.Scale.{Scale}
 use Rattle.weights.specs.declared.prices.Prices.{Prices}
 use Rattle.weights.specs.Inner.Scale.{Sound}
-use Rattle.weights.specs.Inner.Prices.{Modest, Fine, ruleBy}
-use Rattle.weights.specs.Inner.Offers.{bare, offered}
+use Rattle.weights.specs.Inner.Prices.{ruleBy}
 use Rattle.weights.specs.Inner.Places.{keptAt, keptPlaces, Weighable, Standing}
-use Rattle.search.specs.declared.place.Ahead.{Ahead}
-use Rattle.search.specs.declared.place.Choice.{Choice}
-use Rattle.search.specs.declared.place.Weighed.{Weighed}
-
--- ---- one place
--- 0 at the price x, or a at the price y where that is strictly less
-pub record ChosenOf (x y a : ℕ) (r : Choice) : Type 0 where
-  pub level : r .level ≡ cond (ltb y x) a 0
-  pub price : r .price ≡ cond (ltb y x) y x
-
--- there is room for one place more
-pub record Passable (p : Prices) (t : Ahead) : Type 0 where
-  pub modest : Modest p
-  pub zero : t .zero ≤ 2 ^ 63 + 2 ^ 61
-
-abbrev pub passedBy : Prices → Ahead → Ahead
-passedBy p t = record { zero = t .zero + p .zeros; level = t .zero + p .zero; rest = t .rest }
-
-pub record Ready (p : Prices) (g : Scale) (t : Ahead) (L : ℕ) : Type 0 where
-  pub modest : Modest p
-  pub sound : Sound g
-  pub fine : Fine p g L
-  pub some : 1 ≤ nearest (g .shift) L
-  pub zero : t .zero ≤ 2 ^ 63 + 2 ^ 61
-  pub level : t .level ≤ 2 ^ 63 + 2 ^ 61
-  pub rest : t .rest ≤ 2 ^ 60
-
--- the price behind a nonzero level: it is the last one, unless going on is strictly cheaper
-abbrev pub behindBy : Prices → Ahead → ℕ
-behindBy p t = cond (ltb (t .level + p .more) (t .rest + p .last)) (t .level + p .more) (t .rest + p .last)
-
--- a 0 at the place, and the offer there, but for what depends on the level before
-abbrev pub zeroBy : Scale → Ahead → ℕ → ℕ
-zeroBy g t L = t .zero + distortion (g .shift) (g .error) L 0
-
-abbrev pub levelBy : Prices → Scale → Ahead → ℕ → ℕ
-levelBy p g t L = behindBy p t + bare p g L (offered true p g L)
-
-pub record WeighedBy (p : Prices) (g : Scale) (t : Ahead) (L : ℕ) (r : Weighed) : Type 0 where
-  pub zero : ChosenOf (zeroBy g t L + p .zeros) (levelBy p g t L + p .heads) (offered true p g L)
-      (record { level = r .zero; price = r .ahead .zero })
-  pub level : ChosenOf (zeroBy g t L + p .zero) (levelBy p g t L + p .head) (offered true p g L)
-      (record { level = r .level; price = r .ahead .level })
-  pub rest : r .ahead .rest ≡ t .rest + distortion (g .shift) (g .error) L 0
-  pub on : r .on ≡ cond (ltb (t .level + p .more) (t .rest + p .last)) 1 0
-  pub offer : (1 ≤ offered true p g L) × (bare p g L (offered true p g L) ≤ 2 ^ 61 + 2 ^ 59)
-  pub small : (r .zero ≤ 32767) × (r .level ≤ 32767) × (r .on ≤ 1)
+use Rattle.ahead.specs.declared.Ahead.{Ahead}
 
 -- ---- back along the scan
 -- a least price as code holds it, where n places are done: none is 2^63 and more

@@ -9,7 +9,7 @@ use borrow.Author.Needs.{needs}
 use Rattle.tables.specs.Scan.{scanAt}
 use Rattle.weights.specs.Inner.Places.{keptAt}
 use Rattle.weights.proofs.Places.{some-kept, product-small}
-use Rattle.search.specs.Inner.Searching.{Ready, WeighedBy}
+use Rattle.ahead.specs.Inner.Ahead.{Ready, WeighedBy}
 use Rattle.search.proofs.Looking.{Looking, begun, inside-n, passable, ready, passes, weighs}
 use Rattle.search.proofs.passes.look_back.Statement.{statement}
 use Rattle.search.proofs.passes.look_back.Tie as tie

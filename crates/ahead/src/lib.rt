@@ -5,7 +5,7 @@ use weights::offers::make_offer;
 use weights::prices::Prices;
 use weights::scale::Scale;
 ghost use mathlib.Core.Path.{_≡_};
-ghost use Rattle.search.specs.Inner.Searching.{ChosenOf, Passable, passedBy, Ready, WeighedBy};
+ghost use Rattle.ahead.specs.Inner.Ahead.{ChosenOf, Passable, passedBy, Ready, WeighedBy};
 
 // What is known from a place on. zero, level: the least price of what has a nonzero level still to come, after a 0 and
 // after a nonzero level, 2^63 and more where there is none; rest: the uncoded squares.

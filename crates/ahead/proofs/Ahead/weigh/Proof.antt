@@ -1,13 +1,13 @@
--- `search::place::Ahead::weigh` meets its contract: behind a nonzero level the cheaper of ending and going on, and then
+-- `ahead::Ahead::weigh` meets its contract: behind a nonzero level the cheaper of ending and going on, and then
 -- the offer against 0.
 -- Assumes nothing.
 use mathlib.Core.Logic.{⊎-elim, inl, inr}
 use Prim.Native.Nat.{_≤_, _+_, _^_}
 use native.Mathlib.Omega.{arith}
 use borrow.Author.Needs.{needs}
-use Rattle.search.proofs.Weighing.{Behind, behind-small, weighed}
-use Rattle.search.proofs.place.Ahead.weigh.Statement.{statement}
-use Rattle.search.proofs.place.Ahead.weigh.Tie as tie
+use Rattle.ahead.proofs.Weighing.{Behind, behind-small, weighed}
+use Rattle.ahead.proofs.Ahead.weigh.Statement.{statement}
+use Rattle.ahead.proofs.Ahead.weigh.Tie as tie
 
 -- where ending and going on meet again, and what was known before
 abbrev squares : tie.Joined1 → tie.After-squared-below

@@ -1,8 +1,8 @@
--- `search::place::choose` meets its contract.
+-- `ahead::choose` meets its contract.
 -- Assumes nothing.
 use borrow.Author.Tests.{lt-ltb, le-ltb}
-use Rattle.search.proofs.place.choose.Statement.{statement}
-use Rattle.search.proofs.place.choose.Tie as tie
+use Rattle.ahead.proofs.choose.Statement.{statement}
+use Rattle.ahead.proofs.choose.Tie as tie
 
 returns : tie.Need-returns
 returns c = let t = lt-ltb _ _ (c .if1 .taken) in record { level = rw t; price = rw t }

@@ -15,9 +15,9 @@ use Rattle.weights.specs.declared.prices.Prices.{Prices}
 use Rattle.weights.specs.declared.offers.Offer.{Offer}
 use Rattle.weights.specs.Inner.Prices.{Fine}
 use Rattle.weights.specs.Inner.Offers.{bare, offered, Offered}
-use Rattle.search.specs.declared.place.Ahead.{Ahead}
-use Rattle.search.specs.declared.place.Choice.{Choice}
-use Rattle.search.specs.Inner.Searching.{ChosenOf, behindBy, zeroBy, levelBy, WeighedBy}
+use Rattle.ahead.specs.declared.Ahead.{Ahead}
+use Rattle.ahead.specs.declared.Choice.{Choice}
+use Rattle.ahead.specs.Inner.Ahead.{ChosenOf, behindBy, zeroBy, levelBy, WeighedBy}
 
 -- ---- the offer is m at most
 one-of : (t : Bool) (a b m : ℕ) → a ≤ m → b ≤ m → cond t a b ≤ m
