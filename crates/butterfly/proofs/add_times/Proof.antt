@@ -26,12 +26,12 @@ Inv-loop t v b₀ n k₀ b k =
 abbrev μ-loop : tie.MeasureT-loop
 μ-loop t v b₀ n k₀ b k = length b₀ - k
 
--- the call's inputs, and the loop's
-abbrev start : tie.After-b Inv-loop μ-loop → tie.Start Inv-loop μ-loop
-start c = c .before .before .before .before
-
+-- the loop's inputs, and the call's
 abbrev turn : tie.After-b Inv-loop μ-loop → tie.At-loop Inv-loop μ-loop
 turn c = c .before .before .before
+
+abbrev start : tie.After-b Inv-loop μ-loop → tie.Start Inv-loop μ-loop
+start c = turn c .before
 
 -- what stands at k is still the first, and with the product it stays below 2^31
 room : (c : tie.After-b Inv-loop μ-loop)

@@ -26,6 +26,13 @@ Inv-loop x e₀ o₀ n h k₀ e o k =
 abbrev μ-loop : tie.MeasureT-loop
 μ-loop x e₀ o₀ n h k₀ e o k = length e₀ - k
 
+-- the loop's inputs, and the call's, from where a turn has read its two values
+abbrev turn : tie.After-q Inv-loop μ-loop → tie.At-loop Inv-loop μ-loop
+turn c = c .before .before .before
+
+abbrev start : tie.After-q Inv-loop μ-loop → tie.Start Inv-loop μ-loop
+start c = turn c .before
+
 -- values of which none is larger than 2^29, and what two of them come to
 module _ (x : List ℤ) (small : (i : ℕ) → i < length x → natAbs (at x i) ≤ 2 ^ 29) where
   value : (i : ℕ) → i < length x → SFits w32 (at x i)
@@ -64,9 +71,9 @@ shared-slice-copy-out-q c = omega arith
 
 add-e : tie.Need-add-e Inv-loop μ-loop
 add-e c =
-    let a = c .before .before .before .before in
+    let a = start c in
     let x = a .args .x .now in
-    let k = c .before .before .before .loop .k in
+    let k = turn c .loop .k in
     let j = length x - 1 - k in
     operation-fits w32 _+ℤ_ (at x k) (at x j) (value x (a .pre .1) k (omega arith))
     (value x (a .pre .1) j (omega arith))
@@ -80,9 +87,9 @@ slice-set-from-o c = omega arith
 
 sub-o : tie.Need-sub-o Inv-loop μ-loop
 sub-o c =
-    let a = c .before .before .before .before in
+    let a = start c in
     let x = a .args .x .now in
-    let k = c .before .before .before .loop .k in
+    let k = turn c .loop .k in
     let j = length x - 1 - k in
     operation-fits w32 _-ℤ_ (at x k) (at x j) (value x (a .pre .1) k (omega arith))
     (value x (a .pre .1) j (omega arith))
@@ -102,11 +109,11 @@ loop-less c = omega arith
 
 loop-again : tie.Need-loop-again Inv-loop μ-loop
 loop-again c =
-    let a = c .before .before .before .before in
+    let a = start c in
     let x = a .args .x .now in
-    let k = c .before .before .before .loop .k in
+    let l = turn c .loop in
+    let k = l .k in
     let j = length x - 1 - k in
-    let l = c .before .before .before .loop in
     let p = value x (a .pre .1) k (omega arith) in
     let q = value x (a .pre .1) j (omega arith) in (
       omega arith,

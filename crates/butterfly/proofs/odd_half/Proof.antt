@@ -1,7 +1,7 @@
 -- `butterfly::odd_half` meets its contract: before the turn n each output has gained n products.
 -- Assumes nothing.
 use mathlib.Core.Path.{_≡_, refl, sym, _∙_, ap}
-use Prim.Native.Nat.{ℕ, _-_, _<_, _≤_}
+use Prim.Native.Nat.{ℕ, _+_, _*_, _-_, _<_, _≤_}
 use native.Mathlib.Omega.{arith}
 use borrow.Author.Needs.{sfits-of}
 use lib.ListN.{length}
@@ -20,6 +20,18 @@ Inv-loop t o b₀ h n₀ b n = (n ≤ length o) × (length b ≡ length b₀) ×
 abbrev μ-loop : tie.MeasureT-loop
 μ-loop t o b₀ h n₀ b n = length o - n
 
+-- the loop's inputs, and the call's, from where a turn has read its difference
+abbrev turn : tie.After-v Inv-loop μ-loop → tie.At-loop Inv-loop μ-loop
+turn c = c .before .before
+
+abbrev start : tie.After-v Inv-loop μ-loop → tie.Start Inv-loop μ-loop
+start c = turn c .before
+
+-- the turn's column ends within the largest table
+ends : (c : tie.After-v Inv-loop μ-loop)
+    → (let h = length (start c .args .o .now) in turn c .loop .n * h + h ≤ 256)
+ends c = column-ends (turn c .loop .n) (length (start c .args .o .now)) (omega arith) (omega arith)
+
 loop-holds : tie.Need-loop-holds Inv-loop μ-loop
 loop-holds c = (omega arith, refl, λ k h. c .pre .1 .0 k ∙ sym (gained-none (c .args .t .now) (c .args .o .now) k))
 
@@ -30,52 +42,35 @@ shared-slice-copy-out-v : tie.Need-shared-slice-copy-out-v Inv-loop μ-loop
 shared-slice-copy-out-v c = omega arith
 
 mul-r : tie.Need-mul-r Inv-loop μ-loop
-mul-r c = omega (
-  arith,
-  column-ends (c .before .before .loop .n) (length (c .before .before .before .args .o .now))
-      (omega arith) (omega arith),
-)
+mul-r c = omega (arith, ends c)
 
 add-e : tie.Need-add-e Inv-loop μ-loop
-add-e c = omega (
-  arith,
-  column-ends (c .before .before .loop .n) (length (c .before .before .before .args .o .now))
-      (omega arith) (omega arith),
-)
+add-e c = omega (arith, ends c)
 
 mul-add-times : tie.Need-mul-add-times Inv-loop μ-loop
-mul-add-times c =
-    omega (
-      arith,
-      column-ends (c .before .before .loop .n) (length (c .before .before .before .args .o .now))
-          (omega arith) (omega arith),
-    )
+mul-add-times c = omega (arith, ends c)
 
 sub-add-times : tie.Need-sub-add-times Inv-loop μ-loop
-sub-add-times c =
-    omega (
-      arith,
-      column-ends (c .before .before .loop .n) (length (c .before .before .before .args .o .now))
-          (omega arith) (omega arith),
-    )
+sub-add-times c = omega (arith, ends c)
 
 part-add-times-start : tie.Need-part-add-times-start Inv-loop μ-loop
 part-add-times-start c = omega arith
 
 part-add-times-end : tie.Need-part-add-times-end Inv-loop μ-loop
 part-add-times-end c =
-    let a = c .before .before .before in
+    let a = start c in
     omega (
       arith,
-      column-inside (c .before .before .loop .n) (length (a .args .o .now)) (length (a .args .t .now))
+      column-inside (turn c .loop .n) (length (a .args .o .now)) (length (a .args .t .now))
           (omega arith) (a .pre .0 .2),
     )
 
 add-times-requires : tie.Need-add-times-requires Inv-loop μ-loop
 add-times-requires c κs =
-    let a = c .before .before .before .before .before in
-    let l = c .before .before .before .before .loop in
-    let f = c .before .before .v .given in (
+    let read = c .before .before in
+    let a = start read in
+    let l = turn read .loop in
+    let f = read .v .given in (
       column-length (a .args .t .now) (a .args .o .now) (l .b) (l .n) _ (omega arith) (a .pre .0 .2) (omega arith)
           (toZ-ofZ {w = w32} (sfits-of f)) (λ k h. l .inv .2 k (omega arith)),
       λ k h. turn-fits (a .args .t .now) (a .args .o .now) (l .b) (l .n) _ (omega arith) (a .pre .0 .2) (omega arith)
@@ -91,12 +86,14 @@ loop-less c = omega arith
 
 loop-again : tie.Need-loop-again Inv-loop μ-loop
 loop-again c =
-    let a = c .before .before .before .before .before .before .before in
-    let l = c .before .before .before .before .before .before .loop in
-    let f = c .before .before .before .before .v .given in (
+    let added = c .before in
+    let read = added .before .before .before in
+    let a = start read in
+    let l = turn read .loop in
+    let f = read .v .given in (
       omega arith,
       omega arith,
-      λ k h. c .before .add-times .ensures k (omega arith)
+      λ k h. added .add-times .ensures k (omega arith)
           ∙ turn-gains (a .args .t .now) (a .args .o .now) (l .b) (l .n) _ (omega arith) (a .pre .0 .2) (omega arith)
           (toZ-ofZ {w = w32} (sfits-of f)) (λ k h. l .inv .2 k (omega arith)) k (omega arith),
     )
