@@ -26,21 +26,21 @@ Inv-loop lines src dst₀ t4 t2 j₀ dst j =
 abbrev μ-loop : tie.MeasureT-loop
 μ-loop lines src dst₀ t4 t2 j₀ dst j = lines - j
 
--- the loop's turn, the call's inputs, its tables, and the turn of each call in it
+-- the loop's turn, the last table before it, the call's inputs, and the turn of each call in it
 abbrev Turn : Type 0
 Turn = tie.In-loop Inv-loop μ-loop
 
-abbrev start : Turn → tie.Start Inv-loop μ-loop
-start t = t .before .before .before .before
-
 abbrev tables : Turn → tie.After-odd-2 Inv-loop μ-loop
 tables t = t .before .before
+
+abbrev start : Turn → tie.Start Inv-loop μ-loop
+start t = tables t .before .before
 
 abbrev folding : tie.After-o Inv-loop μ-loop → Turn
 folding c = c .before .before .before
 
 abbrev folded : tie.After-row Inv-loop μ-loop → tie.After-fold Inv-loop μ-loop
-folded c = c .before .before .before .before .before .before
+folded c = let lent = c .before .before .before in lent .before .before .before
 
 -- the turn's line
 abbrev here : Turn → List ℤ
@@ -124,12 +124,14 @@ loop-less c = omega arith
 
 loop-again : tie.Need-loop-again Inv-loop μ-loop
 loop-again c =
-    let y = c .before .before .before .before .before in
+    let stored = c .before in
+    let lent = stored .before .before in
+    let y = lent .before .before in
     let f = folded (y .before) in
     let t = folding (f .before) in
     let a = start t .args in
     let l = t .before .loop in
-    let p = c .before .store-row .ensures in (
+    let p = stored .store-row .ensures in (
       omega arith,
       omega arith,
       columns-more (λ j k. stageAt matrix 16 (a .src .now) j (2 * k)) 8 (2 * a .lines) (λ j. j) (l .dst) _ (l .j)
@@ -150,11 +152,13 @@ same-length c = c .before .loop .inv .1
 
 returns : tie.Need-returns Inv-loop μ-loop
 returns c =
-    let a = c .before .before .before .before .args in
-    let e : c .before .loop .j ≡ a .lines = omega arith in (
-      subst (λ (m : ℕ). Columns (λ j k. stageAt matrix 16 (a .src .now) j (2 * k)) 8 (2 * a .lines) (λ j. j)
-          (c .before .loop .dst) m) e (c .before .loop .inv .2),
-      c .before .loop .inv .3,
+    let behind = c .before in
+    let l = behind .loop in
+    let a = behind .before .before .before .args in
+    let e : l .j ≡ a .lines = omega arith in (
+      subst (λ (m : ℕ). Columns (λ j k. stageAt matrix 16 (a .src .now) j (2 * k)) 8 (2 * a .lines) (λ j. j) (l .dst) m)
+          e (l .inv .2),
+      l .inv .3,
     )
 
 pub evens16-spec : {M : Type 1} → statement M

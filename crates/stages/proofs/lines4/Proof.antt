@@ -76,11 +76,13 @@ loop-less c = omega arith
 
 loop-again : tie.Need-loop-again Inv-loop μ-loop
 loop-again c =
-    let x = c .before .before .before .before .before in
+    let stored = c .before in
+    let lent = stored .before .before in
+    let x = lent .before .before in
     let t = turn (x .before) in
     let a = start t .args in
     let l = t .before .loop in
-    let p = c .before .store-row in
+    let p = stored .store-row in
     passed-more matrix (λ z. z) 2 (a .lines) (a .src .now) (a .dst .now) (l .dst) (p .last .1 .1 .0)
     (x .line4 .last .1 .1 .0) (l .j) (omega arith) (omega arith) (x .line4 .ensures .holds) (p .ensures) (l .inv)
 

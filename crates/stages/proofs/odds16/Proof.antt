@@ -38,8 +38,8 @@ table t = t .before .before
 abbrev folding : tie.After-o Inv-loop μ-loop → Turn
 folding c = c .before .before .before
 
-abbrev folded : tie.After-odd-half Inv-loop μ-loop → tie.After-fold Inv-loop μ-loop
-folded c = c .before .before .before .before .before .before
+abbrev folded : tie.After-b Inv-loop μ-loop → tie.After-fold Inv-loop μ-loop
+folded c = let returned = c .before .before .before in returned .before .before
 
 -- the turn's line
 abbrev here : Turn → List ℤ
@@ -95,7 +95,7 @@ slice-aggregate-odd-half-3 c = search needs
 
 odd-half-requires : tie.Need-odd-half-requires Inv-loop μ-loop
 odd-half-requires c κs =
-    let f = c .before .before .before .before .before in
+    let f = folded c in
     let t = folding (f .before) in
     odd-half-asks 3 (omega arith) (here t) (here-length t) (here-room t) (f .fold .last .1 .0) (f .fold .last .1 .1 .0)
     (omega arith) (omega arith) (f .fold .ensures) (table t .odd-8 .result) (table t .odd-8 .ensures)
@@ -112,7 +112,7 @@ add-store c = omega arith
 store-requires : tie.Need-store-requires Inv-loop μ-loop
 store-requires c κs =
     let b = c .before .before .before in
-    let t = folding (folded b .before) in
+    let t = folding (folded (b .before) .before) in
     let lb : length (b .odd-half .last .1 .1 .0) ≡ 8 = omega arith in (
       omega arith,
       subst (λ (m : ℕ). m * (2 * start t .args .lines) ≤ length (t .before .loop .dst)) (sym lb)
@@ -127,8 +127,10 @@ loop-less c = omega arith
 
 loop-again : tie.Need-loop-again Inv-loop μ-loop
 loop-again c =
-    let b = c .before .before .before .before .before in
-    let f = folded b in
+    let stored = c .before in
+    let lent = stored .before .before in
+    let b = lent .before .before in
+    let f = folded (b .before) in
     let t = folding (f .before) in
     let a = start t .args in
     let l = t .before .loop in
@@ -144,7 +146,7 @@ loop-again c =
           (table t .odd-8 .ensures) (b .odd-half .last .1 .1 .0) (b .odd-half .ensures) k h
           ∙ line-is 16 (a .src .now) (l .j) matrix (2 * k + 1))
           (subst (λ (m : ℕ). Placed (2 * a .lines) (a .lines + l .j) m (at (b .odd-half .last .1 .1 .0)) (l .dst)
-          (c .before .store .last .1 .0)) lb (c .before .store .ensures))
+          (stored .store .last .1 .0)) lb (stored .store .ensures))
           (l .inv .2),
     )
 
