@@ -17,19 +17,22 @@ Inv-loop src dst₀ t16 t8 t4 t2 j₀ dst j = Passed matrix half 5 32 src dst₀
 abbrev μ-loop : tie.MeasureT-loop
 μ-loop src dst₀ t16 t8 t4 t2 j₀ dst j = 32 - j
 
--- the loop's turn, the call's inputs, and where the turn hands its line on
+-- the call's inputs, from where the last table is taken
+abbrev called : tie.After-odd-2 Inv-loop μ-loop → tie.Start Inv-loop μ-loop
+called c = let first = c .before .before .before in first .before
+
+-- the loop's turn, the last table before it, the call's inputs, and where the turn hands its line on
 abbrev Turn : Type 0
 Turn = tie.In-loop Inv-loop μ-loop
 
-abbrev start : Turn → tie.Start Inv-loop μ-loop
-start t = t .before .before .before .before .before .before
-
-abbrev turn : tie.After-row Inv-loop μ-loop → Turn
-turn c = c .before .before .before .before .before .before
-
--- the last table taken
 abbrev tables : Turn → tie.After-odd-2 Inv-loop μ-loop
 tables t = t .before .before
+
+abbrev start : Turn → tie.Start Inv-loop μ-loop
+start t = called (tables t)
+
+abbrev turn : tie.After-row Inv-loop μ-loop → Turn
+turn c = let lent = c .before .before .before in lent .before .before .before
 
 odd-16-requires : tie.Need-odd-16-requires Inv-loop μ-loop
 odd-16-requires c κs = search needs
@@ -45,7 +48,7 @@ odd-2-requires c κs = search needs
 
 loop-holds : tie.Need-loop-holds Inv-loop μ-loop
 loop-holds c =
-    let a = c .before .before .before .before .args in none-passed matrix half 5 32 (a .src .now) (a .dst .now)
+    let a = called c .args in none-passed matrix half 5 32 (a .src .now) (a .dst .now)
 
 mul-a : tie.Need-mul-a Inv-loop μ-loop
 mul-a c = omega arith
@@ -102,11 +105,13 @@ loop-less c = omega arith
 
 loop-again : tie.Need-loop-again Inv-loop μ-loop
 loop-again c =
-    let x = c .before .before .before .before .before in
+    let stored = c .before in
+    let lent = stored .before .before in
+    let x = lent .before .before in
     let t = turn (x .before) in
     let a = start t .args in
     let l = t .before .loop in
-    let p = c .before .store-row in
+    let p = stored .store-row in
     passed-more matrix half 5 32 (a .src .now) (a .dst .now) (l .dst) (p .last .1 .1 .0)
     (x .half-line .last .1 .1 .1 .1 .1 .0) (l .j) (omega arith) (omega arith) (x .half-line .ensures) (p .ensures)
     (l .inv)
@@ -117,7 +122,7 @@ same-length c = c .before .loop .inv .1
 returns : tie.Need-returns Inv-loop μ-loop
 returns c =
     let l = c .before .loop in
-    let a = c .before .before .before .before .before .before .args in
+    let a = called (c .before .before) .args in
     all-passed matrix half 5 32 (a .src .now) (a .dst .now) (l .dst) (l .j) (omega arith) (l .inv)
 
 pub half-stage-spec : {M : Type 1} → statement M

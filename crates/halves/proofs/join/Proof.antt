@@ -21,6 +21,13 @@ Inv-loop p q row₀ n i₀ row i =
 abbrev μ-loop : tie.MeasureT-loop
 μ-loop p q row₀ n i₀ row i = length p - i
 
+-- the loop's inputs, and the call's, from where a turn has read its two values
+abbrev turn : tie.After-v Inv-loop μ-loop → tie.At-loop Inv-loop μ-loop
+turn c = c .before .before .before
+
+abbrev start : tie.After-v Inv-loop μ-loop → tie.Start Inv-loop μ-loop
+start c = turn c .before
+
 loop-holds : tie.Need-loop-holds Inv-loop μ-loop
 loop-holds c = (omega arith, refl, below-none _)
 
@@ -38,8 +45,8 @@ shared-slice-copy-out-v c = omega arith
 
 add-row : tie.Need-add-row Inv-loop μ-loop
 add-row c =
-    let a = c .before .before .before .before in
-    let i = c .before .before .before .loop .i in
+    let a = start c in
+    let i = turn c .loop .i in
     let p = at (a .args .p .now) i in
     let q = at (a .args .q .now) i in
     join-fits p q (sfits-of (c .before .u .given)) (sfits-of (c .v .given)) (a .pre .1 i (omega arith))
@@ -58,11 +65,11 @@ loop-less c = omega arith
 
 loop-again : tie.Need-loop-again Inv-loop μ-loop
 loop-again c =
-    let a = c .before .before .before .before in
-    let i = c .before .before .before .loop .i in
+    let a = start c in
+    let l = turn c .loop in
+    let i = l .i in
     let p = at (a .args .p .now) i in
-    let q = at (a .args .q .now) i in
-    let l = c .before .before .before .loop in (
+    let q = at (a .args .q .now) i in (
       omega arith,
       simp length-set (l .inv .1),
       filled-more (pos 0) (l .row) (λ j. at (a .args .p .now) j +ℤ half (at (a .args .q .now) j)) i _ (omega arith)

@@ -10,18 +10,21 @@ use Rattle.halves.proofs.Halves.{Cut, halves-room, rests-room, parts-fi
 use Rattle.halves.proofs.large_line.Statement.{statement}
 use Rattle.halves.proofs.large_line.Tie as tie
 
--- the call's inputs, and the calls before each call
+-- the call's inputs, and the calls before each call, each reached by way of where the next one's slices are lent
 abbrev start : tie.After-halve → tie.Start
 start c = c .before .before
 
 abbrev halved : tie.After-leave → tie.After-halve
-halved c = c .before .before .before .before
+halved c = let lent = c .before .before in lent .before .before
 
 abbrev left : tie.After-line32 → tie.After-leave
-left c = c .before .before .before .before
+left c = let lent = c .before .before in lent .before .before
 
 abbrev first : tie.After-line322 → tie.After-line32
-first c = c .before .before .before .before
+first c = let lent = c .before .before in lent .before .before
+
+abbrev second : tie.After-join-arg → tie.After-line322
+second c = let lent = c .before .before in lent .before .before
 
 cut : (c : tie.After-leave)
     → Cut (start (halved c) .args .x .now) (halved c .halve .last .1 .0) (c .leave .last .1 .1 .0)
@@ -79,7 +82,7 @@ slice-aggregate-join-2 c = search needs
 
 join-requires : tie.Need-join-requires
 join-requires c κs =
-    let q = c .before .before .before .before in
+    let q = second c in
     let p = first q in
     let s = start (halved (left p)) in (
       (omega arith, omega arith),
@@ -93,7 +96,7 @@ same-length c = search needs
 returns : tie.Need-returns
 returns c =
     let j = c .before in
-    let q = j .before .before .before .before .before in
+    let q = second (j .before) in
     let p = first q in
     λ k h.
     j .join .ensures (place 5 k) (omega (arith, place-inside 5 (omega arith) 32 refl k h))

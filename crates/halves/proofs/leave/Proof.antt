@@ -19,6 +19,13 @@ Inv-loop x h v₀ n i₀ v i = (i ≤ length x) × (length v ≡ length v₀) ×
 abbrev μ-loop : tie.MeasureT-loop
 μ-loop x h v₀ n i₀ v i = length x - i
 
+-- the loop's inputs, and the call's, from where a turn has read its two values
+abbrev turn : tie.After-u Inv-loop μ-loop → tie.At-loop Inv-loop μ-loop
+turn c = c .before .before .before
+
+abbrev start : tie.After-u Inv-loop μ-loop → tie.Start Inv-loop μ-loop
+start c = turn c .before
+
 loop-holds : tie.Need-loop-holds Inv-loop μ-loop
 loop-holds c = (omega arith, refl, below-none _)
 
@@ -36,17 +43,17 @@ shared-slice-copy-out-u c = omega arith
 
 sub-v : tie.Need-sub-v Inv-loop μ-loop
 sub-v c =
-    let a = c .before .before .before .before in
+    let a = start c in
     let x = a .args .x .now in
-    let i = c .before .before .before .loop .i in
+    let i = turn c .loop .i in
     let p = a .pre .1 i (omega arith) in
     once-fits (at x i) (at (a .args .h .now) i) (p .0) (p .1)
 
 sub-v-2 : tie.Need-sub-v-2 Inv-loop μ-loop
 sub-v-2 c =
-    let a = c .before .before .before .before in
+    let a = start c in
     let x = a .args .x .now in
-    let i = c .before .before .before .loop .i in
+    let i = turn c .loop .i in
     let p = a .pre .1 i (omega arith) in
     twice-fits (at x i) (at (a .args .h .now) i) (p .0) (p .1)
 
@@ -64,11 +71,11 @@ loop-less c = omega arith
 
 loop-again : tie.Need-loop-again Inv-loop μ-loop
 loop-again c =
-    let a = c .before .before .before .before in
+    let a = start c in
     let x = a .args .x .now in
-    let i = c .before .before .before .loop .i in
-    let p = a .pre .1 i (omega arith) in
-    let l = c .before .before .before .loop in (
+    let l = turn c .loop in
+    let i = l .i in
+    let p = a .pre .1 i (omega arith) in (
       omega arith,
       simp length-set (l .inv .1),
       filled-more (pos 0) (l .v) (λ j. over (at x j)) i _ (omega arith)

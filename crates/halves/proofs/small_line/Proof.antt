@@ -34,9 +34,11 @@ same-length c = search needs
 
 returns : tie.Need-returns
 returns c =
-    let y = c .before .before .before .before .before in
+    let halved = c .before in
+    let lent = halved .before .before in
+    let y = lent .before .before in
     λ k h.
-    c .before .halve .ensures (place 5 k) (omega (arith, place-inside 5 (omega arith) 32 refl k h))
+    halved .halve .ensures (place 5 k) (omega (arith, place-inside 5 (omega arith) 32 refl k h))
     ∙ ap half (y .line32 .ensures .holds k h)
 
 pub small-line-spec : {M : Type 1} → statement M
