@@ -24,7 +24,8 @@ halves lw lh hw hh t b a s =
     subst (λ (l : ℕ). Staged matrix half l (2 ^ lw) b a (2 ^ lw)) (let e : 5 ≡ lh = omega arith in e)
     (subst (λ (n : ℕ). Staged matrix half 5 n b a n) (ap (λ (l : ℕ). 2 ^ l) (let e : 5 ≡ lw = omega arith in e)) s)
 
--- the call's inputs, and the calls before each call
+-- the call's inputs, and the calls before each call: `lent` is where its slices are lent, `large` and `smaller` are
+-- behind the test for a block of 32 by 32
 abbrev start : tie.After-side2 → tie.Start
 start c = c .before .before
 
@@ -32,16 +33,22 @@ abbrev sized : tie.After-widen → tie.After-side2
 sized c = c .before .before .before
 
 abbrev widened : tie.After-stage → tie.After-widen
-widened c = c .before .before .before .before
+widened c = let lent = c .before .before in lent .before .before
 
 abbrev begin : tie.After-stage → tie.Start
 begin c = start (sized (widened c))
 
 abbrev before-halves : tie.After-half-stage → tie.After-stage
-before-halves c = c .before .before .before .before .before
+before-halves c = let large = c .before .before .before in large .before .before
 
 abbrev before-second : tie.After-stage2 → tie.After-stage
-before-second c = c .before .before .before .before .before
+before-second c = let smaller = c .before .before .before in smaller .before .before
+
+abbrev halved : tie.After-settle-arg2 → tie.After-half-stage
+halved c = c .before .before .before
+
+abbrev staged : tie.After-settle-arg4 → tie.After-stage2
+staged c = c .before .before .before
 
 -- what the first stage left: the sums of the block itself
 abbrev firsts : tie.After-stage → List ℤ
@@ -111,9 +118,10 @@ add-if1 c = search needs
 
 half-stage-requires : tie.Need-half-stage-requires
 half-stage-requires c κs =
-    let f = c .before .before .before .before in
+    let large = c .before .before in
+    let f = large .before .before in
     let s = begin f in
-    let t = c .before .before .if1 .taken in (
+    let t = large .if1 .taken in (
       largest _ (s .args .lw) (s .args .lh) (omega (arith, s .pre .1 .0 .0)) t,
       largest _ (s .args .lw) (s .args .lh) (omega (arith, s .pre .1 .0 .0)) t,
       λ i g.
@@ -132,7 +140,7 @@ half-stage-requires c κs =
 
 settle-requires : tie.Need-settle-requires
 settle-requires c κs =
-    let g = c .before .before .before in
+    let g = halved c in
     let f = before-halves g in
     let s = begin f in
     let t = g .before .before .before .if1 .taken in (
@@ -156,7 +164,7 @@ same-length-3 c = search needs
 returns : tie.Need-returns
 returns c =
     let out = c .before .settle in
-    let g = c .before .before .before .before .before in
+    let g = halved (c .before .before) in
     let f = before-halves g in
     let s = begin f in
     let t = g .before .before .before .if1 .taken in
@@ -169,7 +177,8 @@ returns c =
 
 stage-requires-2 : tie.Need-stage-requires-2
 stage-requires-2 c κs =
-    let f = c .before .before .before .before in
+    let smaller = c .before .before in
+    let f = smaller .before .before in
     let s = begin f in
     let w = sized (widened f) .before .side in (
       (
@@ -199,7 +208,7 @@ cast-settle c = search needs
 
 settle-requires-2 : tie.Need-settle-requires-2
 settle-requires-2 c κs =
-    let g = c .before .before .before in
+    let g = staged c in
     let f = before-second g in
     let s = begin f in (
       (omega arith, omega arith, omega arith),
@@ -221,7 +230,7 @@ same-length-6 c = search needs
 returns-2 : tie.Need-returns-2
 returns-2 c =
     let out = c .before .settle2 in
-    let g = c .before .before .before .before .before in
+    let g = staged (c .before .before) in
     let f = before-second g in
     let s = begin f in
     settled (s .args .lw) (s .args .lh) (s .pre .0 .1) (s .pre .0 .3)

@@ -20,7 +20,8 @@ returns-4 c = (ap (λ (l : ℕ). 2 ^ l) (sym (c .if4 .taken)), omega arith)
 
 returns-5 : tie.Need-returns-5
 returns-5 c =
-    let a = c .before .before .before .before .args in
+    let past-2 = c .before .before in
+    let a = past-2 .before .before .args in
     let five : a .log2 ≡ 5 = omega arith in
     (ap (λ (l : ℕ). 2 ^ l) (sym five), omega arith)
 
