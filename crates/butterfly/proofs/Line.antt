@@ -21,48 +21,60 @@ use Rattle.butterfly.proofs.OddHalf.{noughts, noughts-at, noughts-lengt
 use Rattle.butterfly.proofs.Room.{values-small, sums-room}
 use Rattle.butterfly.proofs.Level as level
 
-module _ (l : ℕ) (hl : l < mostLog2) (x : List ℤ) (lx : length x ≡ 2 ^ l + 2 ^ l) (room : Room (suc l) x) where
-  -- e and o begin as noughts
-  pub fold-asks :
-      ((length (noughts (2 ^ l)) + length (noughts (2 ^ l)) ≡ length x)
-      × (length (noughts (2 ^ l)) ≡ length (noughts (2 ^ l))))
-      × ((i : ℕ) → i < length x → natAbs (at x i) ≤ 2 ^ 29)
-  fold-asks = ((omega (arith, noughts-length (2 ^ l)), refl), values-small l x lx room)
+-- e and o begin as noughts
+pub fold-asks : (l : ℕ) (x : List ℤ) → length x ≡ 2 ^ l + 2 ^ l → Room (suc l) x
+    → ((length (noughts (2 ^ l)) + length (noughts (2 ^ l)) ≡ length x)
+    × (length (noughts (2 ^ l)) ≡ length (noughts (2 ^ l))))
+    × ((i : ℕ) → i < length x → natAbs (at x i) ≤ 2 ^ 29)
+fold-asks l x long room = ((omega (arith, noughts-length (2 ^ l)), refl), values-small l x long room)
 
-  module _ (e o : List ℤ) (le : length e ≡ 2 ^ l) (lo : length o ≡ 2 ^ l) (f : Folded x e o) where
-    pub sums-ask : Room l e
-    sums-ask = sums-room l x lx room e o le f
+-- a line x that has room, once `fold` has left its sums e and its differences o
+pub record Halved (l : ℕ) (x e o : List ℤ) : Type 0 where
+  pub level : l < mostLog2
+  pub long : length x ≡ 2 ^ l + 2 ^ l
+  pub room : Room (suc l) x
+  pub sums : length e ≡ 2 ^ l
+  pub differences : length o ≡ 2 ^ l
+  pub folded : Folded x e o
 
-    pub evens-held : (k : ℕ) → k < 2 ^ l → lineAt matrix (2 ^ l) e k ≡ lineAt matrix (2 ^ l + 2 ^ l) x (2 * k)
-    evens-held = level.even-coefficient matrix l (matrix-symmetric l hl) x lx e o le f
+module _ {l : ℕ} {x e o : List ℤ} (h : Halved l x e o) where
+  pub sums-ask : Room l e
+  sums-ask = sums-room l x (h .long) (h .room) e o (h .sums) (h .folded)
 
-    module _ (t : List ℤ) (et : t ≡ oddRows (2 ^ l)) where
-      -- so does b
-      pub odd-half-asks :
-          ((length o ≡ length (noughts (2 ^ l))) × (length o ≤ 16) × (length o * length o ≤ length t))
-          × (((k : ℕ) → at (noughts (2 ^ l)) k ≡ pos 0)
-          × ((k : ℕ) → k < length (noughts (2 ^ l)) → spent t o (length o) k < 2 ^ 31))
-      odd-half-asks =
-          let is = et ∙ odd-rows-are (2 ^ l) in (
-            (
-              omega (arith, noughts-length (2 ^ l)),
-              omega (arith, pow-mono {i = l} {j = 4} (omega arith)),
-              level.table-long matrix l (matrix-symmetric l hl) x lx e o le f lo t is,
-            ),
-            (
-              noughts-at (2 ^ l),
-              λ k h. level.odd-half-fits matrix l (matrix-symmetric l hl) x lx e o le f lo t is (matrix-light l hl) room
-                  k (omega (arith, noughts-length (2 ^ l))),
-            ),
-          )
+  pub evens-held : (k : ℕ) → k < 2 ^ l → lineAt matrix (2 ^ l) e k ≡ lineAt matrix (2 ^ l + 2 ^ l) x (2 * k)
+  evens-held =
+      level.even-coefficient matrix l (matrix-symmetric l (h .level)) x (h .long) e o (h .sums) (h .folded)
 
-      module _ (b : List ℤ) (gains : (k : ℕ) → k < 2 ^ l → at b k ≡ gained t o (length o) k) where
-        pub odds-held : (k : ℕ) → k < 2 ^ l → at b k ≡ lineAt matrix (2 ^ l + 2 ^ l) x (2 * k + 1)
-        odds-held k h =
-            gains k h
-            ∙ level.odd-coefficient matrix l (matrix-symmetric l hl) x lx e o le f lo t (et ∙ odd-rows-are (2 ^ l)) k h
+  module _ (t : List ℤ) (et : t ≡ oddRows (2 ^ l)) where
+    -- b begins as noughts too
+    pub odd-half-asks :
+        ((length o ≡ length (noughts (2 ^ l))) × (length o ≤ 16) × (length o * length o ≤ length t))
+        × (((k : ℕ) → at (noughts (2 ^ l)) k ≡ pos 0)
+        × ((k : ℕ) → k < length (noughts (2 ^ l)) → spent t o (length o) k < 2 ^ 31))
+    odd-half-asks =
+        let is = et ∙ odd-rows-are (2 ^ l) in
+        let mirrored = matrix-symmetric l (h .level) in (
+          (
+            omega (arith, h .differences, noughts-length (2 ^ l)),
+            omega (arith, h .differences, pow-mono {i = l} {j = 4} (omega (arith, h .level))),
+            level.table-long matrix l mirrored x (h .long) e o (h .sums) (h .folded) (h .differences) t is,
+          ),
+          (
+            noughts-at (2 ^ l),
+            λ k g. level.odd-half-fits matrix l mirrored x (h .long) e o (h .sums) (h .folded) (h .differences) t is
+                (matrix-light l (h .level)) (h .room) k (omega (arith, noughts-length (2 ^ l))),
+          ),
+        )
 
-        pub row-held : (old mid new : List ℤ) → length b ≡ 2 ^ l → Behind b old mid → Row matrix l e mid new
-            → Row matrix (suc l) x old new
-        row-held old mid new lb =
-            level.row-joins matrix l (matrix-symmetric l hl) x lx e o le f b old mid new lb odds-held
+    module _ (b : List ℤ) (gains : (k : ℕ) → k < 2 ^ l → at b k ≡ gained t o (length o) k) where
+      pub odds-held : (k : ℕ) → k < 2 ^ l → at b k ≡ lineAt matrix (2 ^ l + 2 ^ l) x (2 * k + 1)
+      odds-held k g =
+          gains k g
+          ∙ level.odd-coefficient matrix l (matrix-symmetric l (h .level)) x (h .long) e o (h .sums) (h .folded)
+          (h .differences) t (et ∙ odd-rows-are (2 ^ l)) k g
+
+      pub row-held : (old mid new : List ℤ) → length b ≡ 2 ^ l → Behind b old mid → Row matrix l e mid new
+          → Row matrix (suc l) x old new
+      row-held old mid new lb =
+          level.row-joins matrix l (matrix-symmetric l (h .level)) x (h .long) e o (h .sums) (h .folded) b old mid new
+          lb odds-held

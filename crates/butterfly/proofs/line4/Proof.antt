@@ -2,11 +2,12 @@
 -- Assumes nothing.
 use native.Mathlib.Omega.{arith}
 use borrow.Author.Needs.{needs}
-use Rattle.butterfly.proofs.Line.{fold-asks, odd-half-asks, sums-ask, row-held}
+use Rattle.butterfly.proofs.Line.{Halved, fold-asks, odd-half-asks, sums-ask, row-held}
 use Rattle.butterfly.proofs.line4.Statement.{statement}
 use Rattle.butterfly.proofs.line4.Tie as tie
 
--- the call's inputs, and the calls before each call, from where the next one's slices are lent
+-- the call's inputs, and the calls before each call; in between, the slices of the one are returned and those of the
+-- next are lent
 abbrev start : tie.After-fold → tie.Start
 start c = c .before .before .before
 
@@ -19,6 +20,18 @@ gathered c = let lent = c .before .before in lent .before .before
 abbrev placed : tie.After-line2-arg → tie.After-put
 placed c = c .before .before .before
 
+halved : (f : tie.After-fold) → Halved 1 (start f .args .x .now) (f .fold .last .1 .0) (f .fold .last .1 .1 .0)
+halved f =
+    let s = start f in
+    record {
+      level = omega arith;
+      long = s .pre .0 .0;
+      room = s .pre .0 .2;
+      sums = omega arith;
+      differences = omega arith;
+      folded = f .fold .ensures;
+    }
+
 slice-aggregate-fold : tie.Need-slice-aggregate-fold
 slice-aggregate-fold c = search needs
 
@@ -27,7 +40,7 @@ slice-aggregate-fold-2 c = search needs
 
 fold-requires : tie.Need-fold-requires
 fold-requires c κs =
-    let s = c .before .before in fold-asks 1 (omega arith) (s .args .x .now) (s .pre .0 .0) (s .pre .0 .2)
+    let s = c .before .before in fold-asks 1 (s .args .x .now) (s .pre .0 .0) (s .pre .0 .2)
 
 slice-aggregate-odd-half : tie.Need-slice-aggregate-odd-half
 slice-aggregate-odd-half c = search needs
@@ -39,8 +52,7 @@ odd-half-requires : tie.Need-odd-half-requires
 odd-half-requires c κs =
     let f = folded c in
     let s = start f in
-    odd-half-asks 1 (omega arith) (s .args .x .now) (s .pre .0 .0) (s .pre .0 .2) (f .fold .last .1 .0)
-    (f .fold .last .1 .1 .0) (omega arith) (omega arith) (f .fold .ensures) (s .args .t2 .now) (s .pre .1)
+    odd-half-asks (halved f) (s .args .t2 .now) (s .pre .1)
 
 slice-aggregate-put : tie.Need-slice-aggregate-put
 slice-aggregate-put c = search needs
@@ -53,11 +65,7 @@ slice-aggregate-line2 c = search needs
 
 line2-requires : tie.Need-line2-requires
 line2-requires c κs =
-    let f = folded (gathered (placed c) .before) in
-    let s = start f in
-    let r = sums-ask 1 (omega arith) (s .args .x .now) (s .pre .0 .0) (s .pre .0 .2) (f .fold .last .1 .0)
-    (f .fold .last .1 .1 .0) (omega arith) (omega arith) (f .fold .ensures) in
-    (omega arith, omega arith, r)
+    let f = folded (gathered (placed c) .before) in (omega arith, omega arith, sums-ask (halved f))
 
 same-length : tie.Need-same-length
 same-length c = search needs
@@ -68,9 +76,8 @@ returns c =
     let b = gathered p .odd-half in
     let f = folded (gathered p .before) in
     let s = start f in
-    row-held 1 (omega arith) (s .args .x .now) (s .pre .0 .0) (s .pre .0 .2) (f .fold .last .1 .0)
-    (f .fold .last .1 .1 .0) (omega arith) (omega arith) (f .fold .ensures) (s .args .t2 .now) (s .pre .1)
-    (b .last .1 .1 .0) (b .ensures) (s .args .row .now) (p .put .last .1 .0) _ (omega arith) (p .put .ensures)
+    row-held (halved f) (s .args .t2 .now) (s .pre .1) (b .last .1 .1 .0) (b .ensures) (s .args .row .now)
+    (p .put .last .1 .0) _ (omega arith) (p .put .ensures)
     (c .before .line2 .ensures)
 
 pub line4-spec : {M : Type 1} → statement M

@@ -11,7 +11,7 @@ use lib.IntN.{ℤ}
 use Rattle.integers.specs.Sum.{at}
 use Rattle.tables.specs.Matrix.{matrix}
 use Rattle.butterfly.specs.Inner.Lines.{place, Room}
-use Rattle.butterfly.proofs.Line.{fold-asks, sums-ask, evens-held}
+use Rattle.butterfly.proofs.Line.{Halved, fold-asks, sums-ask, evens-held}
 use Rattle.stages.specs.Inner.Stages.{stageAt, Columns}
 use Rattle.stages.proofs.Columns.{line, line-is, line-length, line-room, columns-more, left-column}
 use Rattle.stages.proofs.evens16.Statement.{statement}
@@ -52,6 +52,20 @@ here-length t = line-length 16 (start t .args .src .now) (t .before .loop .j) (o
 here-room : (t : Turn) → Room 4 (here t)
 here-room t = line-room 16 (start t .args .src .now) (t .before .loop .j) (omega arith) 4 (start t .pre .3)
 
+-- what `fold` left of it
+halved : (f : tie.After-fold Inv-loop μ-loop)
+    → Halved 3 (here (folding (f .before))) (f .fold .last .1 .0) (f .fold .last .1 .1 .0)
+halved f =
+    let t = folding (f .before) in
+    record {
+      level = omega arith;
+      long = here-length t;
+      room = here-room t;
+      sums = omega arith;
+      differences = omega arith;
+      folded = f .fold .ensures;
+    }
+
 odd-4-requires : tie.Need-odd-4-requires Inv-loop μ-loop
 odd-4-requires c κs = search needs
 
@@ -86,7 +100,7 @@ slice-aggregate-fold-2 : tie.Need-slice-aggregate-fold-2 Inv-loop μ-loop
 slice-aggregate-fold-2 c = search needs
 
 fold-requires : tie.Need-fold-requires Inv-loop μ-loop
-fold-requires c κs = let t = folding c in fold-asks 3 (omega arith) (here t) (here-length t) (here-room t)
+fold-requires c κs = let t = folding c in fold-asks 3 (here t) (here-length t) (here-room t)
 
 slice-aggregate-line8 : tie.Need-slice-aggregate-line8 Inv-loop μ-loop
 slice-aggregate-line8 c = search needs
@@ -98,12 +112,7 @@ line8-requires : tie.Need-line8-requires Inv-loop μ-loop
 line8-requires c κs =
     let f = folded c in
     let t = folding (f .before) in (
-      (
-        omega arith,
-        omega arith,
-        sums-ask 3 (omega arith) (here t) (here-length t) (here-room t) (f .fold .last .1 .0) (f .fold .last .1 .1 .0)
-            (omega arith) (omega arith) (f .fold .ensures),
-      ),
+      (omega arith, omega arith, sums-ask (halved f)),
       (tables t .before .odd-4 .ensures, tables t .odd-2 .ensures),
     )
 
@@ -139,8 +148,7 @@ loop-again c =
           (left-column (a .lines) (l .j) (omega arith))
           (λ k h.
           y .line8 .ensures .holds k h
-          ∙ evens-held 3 (omega arith) (here t) (here-length t) (here-room t) (f .fold .last .1 .0)
-          (f .fold .last .1 .1 .0) (omega arith) (omega arith) (f .fold .ensures) k h
+          ∙ evens-held (halved f) k h
           ∙ line-is 16 (a .src .now) (l .j) matrix (2 * k))
           p
           (l .inv .2),

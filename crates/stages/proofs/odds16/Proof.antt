@@ -10,7 +10,7 @@ use lib.IntN.{ℤ}
 use Rattle.integers.specs.Sum.{at}
 use Rattle.tables.specs.Matrix.{matrix}
 use Rattle.butterfly.specs.Inner.Lines.{Room}
-use Rattle.butterfly.proofs.Line.{fold-asks, odd-half-asks, odds-held}
+use Rattle.butterfly.proofs.Line.{Halved, fold-asks, odd-half-asks, odds-held}
 use Rattle.columns.specs.Inner.Placed.{Placed}
 use Rattle.stages.specs.Inner.Stages.{stageAt, Columns}
 use Rattle.stages.proofs.Columns.{line, line-is, line-length, line-room, columns-more, right-column}
@@ -51,6 +51,20 @@ here-length t = line-length 16 (start t .args .src .now) (t .before .loop .j) (o
 here-room : (t : Turn) → Room 4 (here t)
 here-room t = line-room 16 (start t .args .src .now) (t .before .loop .j) (omega arith) 4 (start t .pre .3)
 
+-- what `fold` left of it
+halved : (f : tie.After-fold Inv-loop μ-loop)
+    → Halved 3 (here (folding (f .before))) (f .fold .last .1 .0) (f .fold .last .1 .1 .0)
+halved f =
+    let t = folding (f .before) in
+    record {
+      level = omega arith;
+      long = here-length t;
+      room = here-room t;
+      sums = omega arith;
+      differences = omega arith;
+      folded = f .fold .ensures;
+    }
+
 odd-8-requires : tie.Need-odd-8-requires Inv-loop μ-loop
 odd-8-requires c κs = search needs
 
@@ -82,7 +96,7 @@ slice-aggregate-fold-2 : tie.Need-slice-aggregate-fold-2 Inv-loop μ-loop
 slice-aggregate-fold-2 c = search needs
 
 fold-requires : tie.Need-fold-requires Inv-loop μ-loop
-fold-requires c κs = let t = folding c in fold-asks 3 (omega arith) (here t) (here-length t) (here-room t)
+fold-requires c κs = let t = folding c in fold-asks 3 (here t) (here-length t) (here-room t)
 
 slice-aggregate-odd-half : tie.Need-slice-aggregate-odd-half Inv-loop μ-loop
 slice-aggregate-odd-half c = search needs
@@ -97,8 +111,7 @@ odd-half-requires : tie.Need-odd-half-requires Inv-loop μ-loop
 odd-half-requires c κs =
     let f = folded c in
     let t = folding (f .before) in
-    odd-half-asks 3 (omega arith) (here t) (here-length t) (here-room t) (f .fold .last .1 .0) (f .fold .last .1 .1 .0)
-    (omega arith) (omega arith) (f .fold .ensures) (table t .odd-8 .result) (table t .odd-8 .ensures)
+    odd-half-asks (halved f) (table t .odd-8 .result) (table t .odd-8 .ensures)
 
 slice-aggregate-store : tie.Need-slice-aggregate-store Inv-loop μ-loop
 slice-aggregate-store c = search needs
@@ -141,9 +154,8 @@ loop-again c =
           _ (l .j) (at (b .odd-half .last .1 .1 .0))
           (right-column (a .lines) (l .j) (omega arith))
           (λ k h.
-          odds-held 3 (omega arith) (here t) (here-length t) (here-room t) (f .fold .last .1 .0)
-          (f .fold .last .1 .1 .0) (omega arith) (omega arith) (f .fold .ensures) (table t .odd-8 .result)
-          (table t .odd-8 .ensures) (b .odd-half .last .1 .1 .0) (b .odd-half .ensures) k h
+          odds-held (halved f) (table t .odd-8 .result) (table t .odd-8 .ensures) (b .odd-half .last .1 .1 .0)
+          (b .odd-half .ensures) k h
           ∙ line-is 16 (a .src .now) (l .j) matrix (2 * k + 1))
           (subst (λ (m : ℕ). Placed (2 * a .lines) (a .lines + l .j) m (at (b .odd-half .last .1 .1 .0)) (l .dst)
           (stored .store .last .1 .0)) lb (stored .store .ensures))
