@@ -14,7 +14,7 @@ use Rattle.subblock.proofs.code_in.Tie as tie
 
 -- where the room was filled and where the three were coded, and the call's inputs
 abbrev start : tie.After-copy → tie.Start
-start c = c .before .before .before .before
+start c = let lent = c .before .before in lent .before .before
 
 abbrev filled : tie.After-code-parts → tie.After-copy
 filled c = c .before .before .before

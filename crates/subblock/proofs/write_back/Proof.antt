@@ -6,12 +6,12 @@ use Rattle.turns.proofs.ThreeParts.{written-back}
 use Rattle.subblock.proofs.write_back.Statement.{statement}
 use Rattle.subblock.proofs.write_back.Tie as tie
 
--- where each stretch was copied, from V's back to Y's, and the call's inputs
+-- where each stretch was copied, from V's back to Y's by way of where the next one is lent, and the call's inputs
 abbrev u-copied : tie.After-copy3 → tie.After-copy2
-u-copied c = c .before .before .before .before
+u-copied c = let lent = c .before .before in lent .before .before
 
 abbrev y-copied : tie.After-copy2 → tie.After-copy
-y-copied c = c .before .before .before .before
+y-copied c = let lent = c .before .before in lent .before .before
 
 abbrev start : tie.After-copy → tie.Start
 start c = c .before .before .before
