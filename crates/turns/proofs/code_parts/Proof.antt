@@ -18,10 +18,10 @@ abbrev start : tie.After-code-component → tie.Start
 start c = c .before .before
 
 abbrev y-done : tie.After-known-told → tie.After-code-component
-y-done c = c .before .before .before .before
+y-done c = let answer = c .before in answer .before .before .before
 
 abbrev u-done : tie.After-known-told3 → tie.After-code-component2
-u-done c = c .before .before .before .before
+u-done c = let answer = c .before in answer .before .before .before
 
 abbrev y-before-u : tie.After-code-component2 → tie.After-code-component
 y-before-u c = y-done (c .before .before)
@@ -95,9 +95,10 @@ same-length c = search needs
 
 returns : tie.Need-returns
 returns c =
-    let y = c .before .before .before .before in
+    let answer = c .before in
+    let y = answer .before .before .before in
     let a = start y .args in
-    refused-parted (a .q) (a .n) (a .room .now) _ _ _ _ _ _ (said (y-answers y) (c .before .answer-y2 .given .1)) refl
+    refused-parted (a .q) (a .n) (a .room .now) _ _ _ _ _ _ (said (y-answers y) (answer .answer-y2 .given .1)) refl
     refl refl
 
 -- ---- U
@@ -130,11 +131,12 @@ same-length-2 c = search needs
 
 returns-2 : tie.Need-returns-2
 returns-2 c =
-    let u = c .before .before .before .before in
+    let answer = c .before in
+    let u = answer .before .before .before in
     let a = start-u u .args in
     refused-parted (a .q) (a .n) (a .room .now) _ _ _ _ _ _
     (said (y-answers (y-before-u u)) (u .before .before .before .answer-y .given .1))
-    (said (u-answers u) (c .before .answer-u2 .given .1)) refl refl
+    (said (u-answers u) (answer .answer-u2 .given .1)) refl refl
 
 -- ---- V
 mul-code-component-2 : tie.Need-mul-code-component-2
@@ -167,7 +169,8 @@ same-length-3 c = search needs
 
 returns-3 : tie.Need-returns-3
 returns-3 c =
-    let v = c .before .before .before .before in
+    let answer = c .before in
+    let v = answer .before .before .before in
     let u = u-before-v v in
     let y = y-before-u u in
     let s = start y in
@@ -175,7 +178,7 @@ returns-3 c =
     coded-parted (a .q) (a .n) (a .room .now) _ _ _ _
     (said (y-answers y) (u .before .before .before .answer-y .given .1))
     (said (u-answers u) (v .before .before .before .answer-u .given .1))
-    (said (v-answers v) (c .before .answer-v .given .1))
+    (said (v-answers v) (answer .answer-v .given .1))
     (all-left (a .q) (a .n) (a .room .now) (s .pre) _ (y .code-component .ensures .1) _ (u .code-component2 .ensures .1)
     _ (v .code-component3 .ensures .1))
 
@@ -184,13 +187,14 @@ same-length-4 c = search needs
 
 returns-4 : tie.Need-returns-4
 returns-4 c =
-    let v = c .before .before .before .before in
+    let answer = c .before in
+    let v = answer .before .before .before in
     let u = u-before-v v in
     let a = start-v v .args in
     refused-parted (a .q) (a .n) (a .room .now) _ _ _ _ _ _
     (said (y-answers (y-before-u u)) (u .before .before .before .answer-y .given .1))
     (said (u-answers u) (v .before .before .before .answer-u .given .1))
-    (said (v-answers v) (c .before .answer-v2 .given .1)) refl
+    (said (v-answers v) (answer .answer-v2 .given .1)) refl
 
 pub code-parts-spec : {M : Type 1} → statement M
 code-parts-spec =
