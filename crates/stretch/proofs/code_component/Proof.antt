@@ -16,7 +16,7 @@ use Rattle.stretch.proofs.code_component.Tie as tie
 
 -- where the transform was done, seen from behind the quantiser; what was worked out before it; and the call's inputs
 abbrev transformed : tie.After-quant-nnz → tie.After-trans
-transformed c = c .before .before .before .before .before
+transformed c = let accepted = c .before .before in accepted .before .before .before
 
 abbrev settled : tie.After-trans → tie.After-settings-of
 settled c = c .before .before .before
@@ -56,14 +56,15 @@ same-length c = search needs
 
 returns : tie.Need-returns
 returns c =
-    let t = c .before .before .before .before in
+    let refused = c .before in
+    let t = refused .before .before .before in
     let log2 = settled t .before .log2-of in
     let s = start (begun t) in
     let a = s .args in
     let e : trans.transOutcome (t .trans .result) ≡ passed =
     t .trans .ensures .0
     ∙ trans-passes (a .component) (a .q) (a .part .now) (s .pre) (is-run (begun t)) (log2 .result) (log2 .ensures) in
-    let g = sym (ap trans.transOutcome (c .before .t .given .1)) ∙ e in
+    let g = sym (ap trans.transOutcome (refused .t .given .1)) ∙ e in
     let z : _≡_ {A = ℕ} 0 1 = cc in
     absurd (let no : ⊥ = omega arith in no)
 
