@@ -19,12 +19,15 @@ abbrev PastIn : ℕ → tie.Start → Type 0
 PastIn n s = (l : List ℤ) → Past (requested l (s .args .q)) settingsFaults (drop n settingsFaults)
 
 -- ---- the log2 side, by two tests
+abbrev not-low : tie.Else2 → tie.Else1
+not-low c = c .before .before
+
 abbrev start2 : tie.Else2 → tie.Start
-start2 c = c .before .before .before .before
+start2 c = not-low c .before .before
 
 log2-past : (c : tie.Else2) → PastIn 1 (start2 c)
 unfolding settingsFaults requested
-log2-past c l = past untested (log2-fine _ (c .before .before .if1 .left) (c .if2 .left))
+log2-past c l = past untested (log2-fine _ (not-low c .if1 .left) (c .if2 .left))
 
 returns : tie.Need-returns
 unfolding settingsFaults requested
