@@ -33,9 +33,16 @@ use Rattle.quantise.proofs.Answer.{skipped-answer, coded-answer}
 use Rattle.quantise.proofs.code_block.Statement.{statement}
 use Rattle.quantise.proofs.code_block.Tie as tie
 
+-- to the scale, from where the largest coefficient is known and from behind the test of it
+abbrev scale-there : tie.After-largest → tie.After-scale-of
+scale-there c = c .before .before
+
+abbrev scale-at : tie.Else2 → tie.After-scale-of
+scale-at c = scale-there (c .before)
+
 -- from where a test is past to where the one before it was
 abbrev else-1 : tie.Else2 → tie.Else1
-else-1 c = c .before .before .before .before
+else-1 c = scale-at c .before
 
 abbrev else-2 : tie.Else3 → tie.Else2
 else-2 c = c .before .before
@@ -46,7 +53,7 @@ else-3 c = c .before .before
 abbrev else-4 : tie.Else5 → tie.Else4
 else-4 c = c .before .before .before
 
--- to the threshold, the scale, the largest coefficient, and to the call's inputs
+-- to the threshold, and to the call's inputs
 abbrev threshold-at : tie.After-is-walked → tie.After-skip-threshold
 threshold-at c = c .before .before .before
 
@@ -55,9 +62,6 @@ start-walked c = threshold-at c .before .before
 
 abbrev start-1 : tie.Else1 → tie.Start
 start-1 c = start-walked (c .before)
-
-abbrev scale-at : tie.Else2 → tie.After-scale-of
-scale-at c = c .before .before .before
 
 abbrev start-2 : tie.Else2 → tie.Start
 start-2 c = start-1 (else-1 c)
@@ -227,7 +231,7 @@ same-length-2 c = search needs
 returns-2 : tie.Need-returns-2
 unfolding called sampleFault
 returns-2 c =
-    let e1 = c .before .before .before .before in
+    let e1 = scale-there (c .before) .before in
     let s = start-1 e1 in
     let e = refused-answer (asked s) (past-1 e1 (here (sample-here (s .args .block .now) (s .args .coding) (s .pre) true
     (c .before .largest .ensures .lowest ∙ eq-eqb _ 32768 (c .if2 .taken))))) in
