@@ -23,15 +23,15 @@ Inv-loop block g most d₀ i₀ d i =
 abbrev μ-loop : tie.MeasureT-loop
 μ-loop block g most d₀ i₀ d i = length block - i
 
--- the call's inputs, and the loop's head and turn
-abbrev start : tie.After-part-end Inv-loop μ-loop → tie.Start Inv-loop μ-loop
-start c = c .before .before .before .before
-
-abbrev at-part-length : tie.After-part-end Inv-loop μ-loop → tie.After-part-length Inv-loop μ-loop
-at-part-length c = c .before .before .before
-
+-- the loop's head, where the length of a part is known, and the call's inputs
 abbrev head : tie.After-part-end Inv-loop μ-loop → tie.At-loop Inv-loop μ-loop
 head c = c .before .before
+
+abbrev at-part-length : tie.After-part-end Inv-loop μ-loop → tie.After-part-length Inv-loop μ-loop
+at-part-length c = head c .before
+
+abbrev start : tie.After-part-end Inv-loop μ-loop → tie.Start Inv-loop μ-loop
+start c = at-part-length c .before
 
 loop-holds : tie.Need-loop-holds Inv-loop μ-loop
 loop-holds c = (omega arith, inl (omega arith))
