@@ -9,6 +9,23 @@ use Rattle.price.specs.Costs.{dear, costRefused}
 use Rattle.price.proofs.costs_refused.Statement.{statement}
 use Rattle.price.proofs.costs_refused.Tie as tie
 
+-- where the earlier tables were looked at, seen from behind the last of them, and the call's inputs: the tables are
+-- copied before the first is looked at
+abbrev last-seen : tie.After-some-dear4 → tie.After-some-dear3
+last-seen c = c .before .before
+
+abbrev level-seen : tie.After-some-dear4 → tie.After-some-dear2
+level-seen c = last-seen c .before .before
+
+abbrev run-seen : tie.After-some-dear4 → tie.After-some-dear
+run-seen c = level-seen c .before .before
+
+abbrev copied : tie.After-some-dear4 → tie.After-cbf
+copied c = run-seen c .before .before
+
+abbrev start : tie.After-some-dear4 → tie.Start
+start c = let run-copied = copied c .before .before .before in run-copied .before
+
 -- the answer so far, by the way it came
 came-true : (x a b : Bool) → a ≡ true → x ≡ a → x ≡ (a || b)
 came-true x true b e q = q
@@ -23,30 +40,26 @@ joined true b c d = refl
 joined false true c d = refl
 joined false false c d = refl
 
-two : (c : tie.Joined1) → c .if1 .if2 ≡ (c .before .before .before .before .before .before .before .some-dear .result
-    || c .before .before .before .before .before .some-dear2 .result)
+two : (c : tie.Joined1)
+    → c .if1 .if2 ≡ (run-seen (c .before) .some-dear .result || level-seen (c .before) .some-dear2 .result)
 two c = ⊎-elim (λ w. came-true _ _ _ (w .0 .taken) (w .1)) (λ w. came-false _ _ _ (w .0 .left) (w .1)) (c .if1 .came)
 
-three : (c : tie.Joined2) → c .if2 .if3 ≡ (c .before .if1 .if2 || c .before .before .before .before .some-dear3 .result)
+three : (c : tie.Joined2) → c .if2 .if3 ≡ (c .before .if1 .if2 || last-seen (c .before .before) .some-dear3 .result)
 three c = ⊎-elim (λ w. came-true _ _ _ (w .0 .taken) (w .1)) (λ w. came-false _ _ _ (w .0 .left) (w .1)) (c .if2 .came)
 
-all : (c : tie.Joined2) → (c .if2 .if3 || c .before .before .some-dear4 .result)
-    ≡ costRefused (c .before .before .before .before .before .before .before .before .before .before .before .before
-    .before .before .args .t)
+either : {a b p q : Bool} → a ≡ p → b ≡ q → (a || b) ≡ (p || q)
+either e f = cc
+
+all : (c : tie.Joined2)
+    → (let j = c .before .before in (c .if2 .if3 || j .some-dear4 .result) ≡ costRefused (start j .args .t))
 unfolding costRefused
 all c =
     let j = c .before .before in
-    let t = j .before .before .before .before .before .before .before .before .before .before .before .before .args
-    .t in
-    rw (
-      three c,
-      two (c .before),
-      j .before .before .before .before .before .before .some-dear .ensures,
-      j .before .before .before .before .some-dear2 .ensures,
-      j .before .before .some-dear3 .ensures,
-      j .some-dear4 .ensures,
-    )
-    (joined (some dear (t .run)) (some dear (t .level)) (some dear (t .last)) (some dear (t .cbf)))
+    let t = start j .args .t in
+    let run-level = two (c .before) ∙ either (run-seen j .some-dear .ensures) (level-seen j .some-dear2 .ensures) in
+    let run-level-last = three c ∙ either run-level (last-seen j .some-dear3 .ensures) in
+    either run-level-last (j .some-dear4 .ensures)
+    ∙ joined (some dear (t .run)) (some dear (t .level)) (some dear (t .last)) (some dear (t .cbf))
 
 slice-aggregate-some-dear : tie.Need-slice-aggregate-some-dear
 slice-aggregate-some-dear c = search needs

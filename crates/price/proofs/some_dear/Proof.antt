@@ -45,15 +45,15 @@ loop-less c = search needs
 
 loop-again : tie.Need-loop-again Inv-loop μ-loop
 loop-again c =
-    let table = c .before .before .before .before .args .table .now in
-    let l = c .before .before .before .loop in
+    let turn = c .before .before in
+    let l = turn .before .loop in
+    let table = turn .before .before .args .table .now in
     let found : c .if1 .found ≡ (l .found || dear (getD table (l .i) 0)) =
     ⊎-elim (λ w. w .1 ∙ or-true (l .found) ∙ ap (λ (t : Bool). l .found || t) (sym (lt-ltb _ _ (w .0 .taken))))
     (λ w. w .1 ∙ or-false (l .found) ∙ ap (λ (t : Bool). l .found || t) (sym (le-ltb _ _ (w .0 .left))))
     (c .if1 .came) in (
       search needs,
-      rw found (over-next tests dear table (l .i) 0 (l .found) (c .before .before .loop-test .taken)
-          ∙ l .inv .1),
+      rw found (over-next tests dear table (l .i) 0 (l .found) (turn .loop-test .taken) ∙ l .inv .1),
     )
 
 returns : tie.Need-returns Inv-loop μ-loop
