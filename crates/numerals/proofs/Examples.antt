@@ -1,4 +1,4 @@
--- The definitions at some words and numbers: the ends of the ranges, and what is no number.
+-- The definitions at some words: the ends of the ranges, and what is no number.
 -- Assumes nothing.
 use mathlib.Core.Path.{_≡_, refl}
 use mathlib.Core.List.{[], _∷_}
@@ -6,21 +6,7 @@ use Prim.Native.Nat.{_-_, _^_}
 use lib.IntN.{pos, negsuc}
 use Rattle.numerals.specs.declared.number.Natural.the-variants as naturals
 use Rattle.numerals.specs.declared.number.Sample.the-variants as samples
-use Rattle.numerals.specs.Number.{naturalUpTo, sampleOf, bitsOf, printed, printedSample}
-
--- 0, 18446744073709551615 and -32768
-zero-printed : printed 0 ≡ 48 ∷ []
-unfolding printed
-zero-printed = refl
-
-largest-printed : printed (2 ^ 64 - 1) ≡ 49 ∷ 56 ∷ 52 ∷ 52 ∷ 54 ∷ 55 ∷ 52 ∷ 52 ∷ 48 ∷ 55 ∷ 51 ∷ 55 ∷ 48 ∷ 57 ∷ 53 ∷ 53
-    ∷ 49 ∷ 54 ∷ 49 ∷ 53 ∷ []
-unfolding printed
-largest-printed = refl
-
-lowest-printed : printedSample (negsuc 32767) ≡ 45 ∷ 51 ∷ 50 ∷ 55 ∷ 54 ∷ 56 ∷ []
-unfolding printedSample
-lowest-printed = refl
+use Rattle.numerals.specs.Number.{naturalUpTo, sampleOf, bitsOf}
 
 -- 18446744073709551616, 007, 00 and an empty word
 one-too-large : naturalUpTo (2 ^ 64 - 1) (49 ∷ 56 ∷ 52 ∷ 52 ∷ 54 ∷ 55 ∷ 52 ∷ 52 ∷ 48 ∷ 55 ∷ 51 ∷ 55 ∷ 48 ∷ 57 ∷ 53 ∷ 53

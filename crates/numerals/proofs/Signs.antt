@@ -1,27 +1,21 @@
--- A sample by its sign: read from a word that may begin with `-`, and printed with its magnitude.
+-- A sample by its sign: read from a word that may begin with `-`.
 -- Assumes nothing.
-use mathlib.Core.Path.{_≡_, refl, sym, ap, subst, _∙_}
-use mathlib.Core.Bool.{true, false, true≢false}
+use mathlib.Core.Path.{_≡_, refl, sym, ap, _∙_}
 use mathlib.Core.List.{List, [], _∷_}
 use native.Mathlib.Nat.{zero-add}
-use Prim.Native.Nat.{ℕ, zero, suc, _+_, _-_, _≤_, _<_}
+use Prim.Native.Nat.{ℕ, zero, suc, _-_, _≤_}
 use native.Mathlib.Omega.{arith}
-use borrow.Author.Tests.{eq-eqb, ne-eqb, ltb-true}
-use lib.ListN.{length, getD, take, drop, set}
-use lib.IntN.{ℤ, pos, negsuc, natAbs, _-ℤ_}
-use lib.Signed.{ltZ}
+use borrow.Author.Tests.{eq-eqb, ne-eqb}
+use lib.ListN.{length, getD, take, drop}
+use lib.IntN.{pos, negsuc, _-ℤ_}
 use mir.Syntax.{w16}
 use mir.Val.{toZ, ofZ, SFits}
 use mir.Facts.{toZ-ofZ, toZ-pos}
 use lib.Seq.{take-all}
 use Rattle.numerals.specs.declared.number.Natural.the-variants as naturals
 use Rattle.numerals.specs.declared.number.Sample.the-variants as samples
-use Rattle.numerals.specs.Number.{naturalUpTo, negativeOf, positiveOf, sampleOf, printed, printedSample}
-use Rattle.numerals.specs.Text.{Put}
-use Rattle.numerals.proofs.Buffers.{put-byte, put-both}
-use Rattle.numerals.proofs.Printing.{few-digits}
+use Rattle.numerals.specs.Number.{naturalUpTo, negativeOf, positiveOf, sampleOf}
 
--- ---- reading
 pub nothing : (w : List ℕ) → length w ≡ 0 → sampleOf w ≡ samples.Malformed
 unfolding sampleOf
 nothing [] e = refl
@@ -83,39 +77,3 @@ module _ (n : ℕ) (k : n ≤ 32767) where
   pub a-positive : samples.Is (toZ w16 n) ≡ positiveOf (naturals.Is n)
   unfolding positiveOf
   a-positive = ap samples.Is (toZ-pos w16 {n = n} (omega arith))
-
--- ---- printing
-module _ (before : List ℕ) (at n : ℕ) (after : List ℕ) (r : ℕ) (small : n ≤ 32768) where
-  few : length (printed n) ≤ 5
-  few = few-digits 4 n (omega arith)
-
-  plain-put : (z : ℤ) → ltZ z (pos 0) ≡ false → n ≡ natAbs z → Put before at (printed n) 20 after r
-      → Put before at (printedSample z) 6 after r
-  unfolding printedSample
-  plain-put (pos m) t e p =
-      subst (λ (k : ℕ). Put before at (printed k) 6 after r) e
-      (record { next = p .next; few = omega (arith, few); holds = p .holds })
-  plain-put (negsuc m) t e p = absurd (true≢false t)
-
-  minus-put : (z : ℤ) → ltZ z (pos 0) ≡ true → n ≡ natAbs z → at < length before
-      → Put (set before at 45) (at + 1) (printed n) 20 after r → Put before at (printedSample z) 6 after r
-  unfolding printedSample
-  minus-put (pos m) t e h p = absurd (let q = ltb-true m 0 t in let no : ⊥ = omega arith in no)
-  minus-put (negsuc m) t e h p =
-      subst (λ (k : ℕ). Put before at (45 ∷ printed k) 6 after r) e
-      (put-both before (45 ∷ []) (printed n) (set before at 45) after at 1 (at + 1) 20 r 6 (omega arith)
-      (omega (arith, few))
-      (put-byte before at 1 45 h (omega arith)) p)
-
-  -- the sample as the machine has it
-  module _ (z : ℤ) (f : SFits w16 z) (e : n ≡ natAbs (toZ w16 (ofZ w16 z))) where
-    size : n ≡ natAbs z
-    size = rw (toZ-ofZ {w = w16} {z = z} f) at e
-
-    pub put-plain : ltZ (toZ w16 (ofZ w16 z)) (pos 0) ≡ false → Put before at (printed n) 20 after r
-        → Put before at (printedSample z) 6 after r
-    put-plain t p = plain-put z (rw (toZ-ofZ {w = w16} {z = z} f) at t) size p
-
-    pub put-minus : ltZ (toZ w16 (ofZ w16 z)) (pos 0) ≡ true → at < length before
-        → Put (set before at 45) (at + 1) (printed n) 20 after r → Put before at (printedSample z) 6 after r
-    put-minus t h p = minus-put z (rw (toZ-ofZ {w = w16} {z = z} f) at t) size h p

@@ -1,10 +1,10 @@
--- Numbers as words of a line: which words are numbers, what they are worth, and how a number is printed. Bytes are
--- ASCII codes: 48 to 57 are the digits, 45 is `-`, 97 to 102 are `a` to `f`.
+-- Numbers as words of a line: which words are numbers, and what they are worth. Bytes are ASCII codes: 48 to 57 are the
+-- digits, 45 is `-`, 97 to 102 are `a` to `f`.
 use mathlib.Core.Bool.{Bool, true, false, not, _&&_, _||_, cond}
-use mathlib.Core.List.{List, [], _∷_, _++_}
-use Prim.Native.Nat.{ℕ, zero, suc, _+_, _-_, _*_, _/_, _%_}
+use mathlib.Core.List.{List, [], _∷_}
+use Prim.Native.Nat.{ℕ, _+_, _-_, _*_}
 use lib.Dec.{ltb, leb, eqb}
-use lib.IntN.{ℤ, pos, negsuc, negℤ}
+use lib.IntN.{pos, negℤ}
 use lib.ListN.{length}
 use Rattle.numerals.specs.declared.number.Natural.{Natural}
 use Rattle.numerals.specs.declared.number.Natural.the-variants as naturals
@@ -74,23 +74,3 @@ hexFrom v (b ∷ w) = hexFrom (16 * v + hexDigit b) w
 unfoldable pub bitsOf : List ℕ → Natural
 unfolding hexDigits hexFrom
 bitsOf w = cond (eqb (length w) 16 && hexDigits w) (naturals.Is (hexFrom 0 w)) naturals.Malformed
-
--- ---- printing
--- the digits of n, the most significant first and no 0 in front: those of a tenth of it, and then the last; at most
--- `most` of them
-unfoldable pub printedIn : ℕ → ℕ → List ℕ
-printedIn zero n = []
-printedIn (suc most) n =
-    let several = printedIn most (n / 10) ++ ((48 + n % 10) ∷ []) in
-    cond (ltb n 10) ((48 + n) ∷ []) several
-
--- n + 1 digits are enough for every n
-unfoldable pub printed : ℕ → List ℕ
-unfolding printedIn
-printed n = printedIn (suc n) n
-
--- the same of an integer
-unfoldable pub printedSample : ℤ → List ℕ
-unfolding printed
-printedSample (pos n) = printed n
-printedSample (negsuc n) = 45 ∷ printed (suc n)

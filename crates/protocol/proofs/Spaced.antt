@@ -7,7 +7,7 @@ use native.Mathlib.Nat.{mul-suc}
 use native.Mathlib.Numerals.{add-one}
 use native.Mathlib.Omega.{arith}
 use lib.ListN.{length, set, length-set}
-use Rattle.numerals.specs.Text.{Put}
+use Rattle.text.specs.Text.{Put}
 
 -- i texts stand from `at` up to `next`, each of fewer than `each` bytes
 pub record Spaced (out : List ℕ) (at each i next : ℕ) : Type 0 where

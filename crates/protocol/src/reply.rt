@@ -1,11 +1,11 @@
 // Answers as text, from the start of the room for them.
 use coding::QuantAnswer;
 use components::SubBlockAnswer;
-use numerals::text::put_natural;
-use numerals::text::put_sample;
-use numerals::text::put_word;
 use refusals::component_number;
 use refusals::number;
+use text::put_natural;
+use text::put_sample;
+use text::put_word;
 use transform::TransAnswer;
 ghost use mathlib.Core.Path.{_≡_};
 ghost use Prim.Native.Nat.{_+_, _≤_};

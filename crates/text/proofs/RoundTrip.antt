@@ -15,14 +15,15 @@ use lib.Seq.{append-snoc}
 use mir.Syntax.{w16}
 use mir.Val.{SFits}
 use Rattle.integers.proofs.Tests.{both}
 use Rattle.numerals.specs.declared.number.Natural.{Natural}
 use Rattle.numerals.specs.declared.number.Natural.the-variants as naturals
 use Rattle.numerals.specs.declared.number.Sample.the-variants as samples
 use Rattle.numerals.specs.Number.{isDigit, digits, isEmpty, natural, valueFrom, valueOf, naturalUpTo, negativeOf}
-use Rattle.numerals.specs.Number.{positiveOf, sampleOf, printed, printedSample}
+use Rattle.numerals.specs.Number.{positiveOf, sampleOf}
 use Rattle.numerals.proofs.Reading.{a-digit}
-use Rattle.numerals.proofs.Printing.{printed-one, printed-more}
 use Rattle.numerals.proofs.Signs.{plain}
+use Rattle.text.specs.Text.{printed, printedSample}
+use Rattle.text.proofs.Printing.{printed-one, printed-more}
 
 -- ---- by the last digit
 -- what holds of the digits, and of each number from its tenth, holds of each number

@@ -1,17 +1,22 @@
--- A number as it is printed: its last digit behind those of a tenth of it, in the text and in the buffer.
+-- A number as it is printed: its last digit behind those of a tenth of it, in the text and in the buffer; a sample is
+-- its magnitude, behind a `-` if it is negative.
 -- Assumes nothing.
-use mathlib.Core.Path.{_≡_, refl, ap}
-use mathlib.Core.Bool.{Bool, true, false, cond}
+use mathlib.Core.Path.{_≡_, refl, ap, subst}
+use mathlib.Core.Bool.{Bool, true, false, cond, true≢false}
 use mathlib.Core.List.{List, [], _∷_, _++_}
 use Prim.Native.Nat.{ℕ, zero, suc, _+_, _/_, _%_, _^_, _≤_, _<_}
 use native.Mathlib.Nat.{not-suc-le-zero, pow-suc, div-lt-iff-lt-mul}
 use native.Mathlib.Omega.{arith}
 use borrow.Author.Tests.{lt-ltb, le-ltb, ltb-true, ltb-false}
 use lib.Dec.{ltb}
+use lib.IntN.{ℤ, pos, negsuc, natAbs}
 use lib.ListN.{length, set, length-append}
-use Rattle.numerals.specs.Number.{printedIn, printed}
-use Rattle.numerals.specs.Text.{Put}
-use Rattle.numerals.proofs.Buffers.{put-byte, put-last}
+use lib.Signed.{ltZ}
+use mir.Syntax.{w16}
+use mir.Val.{toZ, ofZ, SFits}
+use mir.Facts.{toZ-ofZ}
+use Rattle.text.specs.Text.{printedIn, printed, printedSample, Put}
+use Rattle.text.proofs.Buffers.{put-byte, put-both, put-last}
 
 -- ---- the digits
 enough : (f g n : ℕ) → n < f → n < g → printedIn f n ≡ printedIn g n
@@ -56,3 +61,39 @@ module _ (before : List ℕ) (at n : ℕ) where
       let small : length (printed (n / 10)) ≤ 19 = few-digits 18 (n / 10) (omega arith) in
       rw (printed-more n k) (put-last before (printed (n / 10)) mid at (48 + n % 10) 20 end 20 (omega arith)
       (omega arith) p)
+
+-- ---- a sample put into a buffer
+module _ (before : List ℕ) (at n : ℕ) (after : List ℕ) (r : ℕ) (small : n ≤ 32768) where
+  few : length (printed n) ≤ 5
+  few = few-digits 4 n (omega arith)
+
+  plain-put : (z : ℤ) → ltZ z (pos 0) ≡ false → n ≡ natAbs z → Put before at (printed n) 20 after r
+      → Put before at (printedSample z) 6 after r
+  unfolding printedSample
+  plain-put (pos m) t e p =
+      subst (λ (k : ℕ). Put before at (printed k) 6 after r) e
+      (record { next = p .next; few = omega (arith, few); holds = p .holds })
+  plain-put (negsuc m) t e p = absurd (true≢false t)
+
+  minus-put : (z : ℤ) → ltZ z (pos 0) ≡ true → n ≡ natAbs z → at < length before
+      → Put (set before at 45) (at + 1) (printed n) 20 after r → Put before at (printedSample z) 6 after r
+  unfolding printedSample
+  minus-put (pos m) t e h p = absurd (let q = ltb-true m 0 t in let no : ⊥ = omega arith in no)
+  minus-put (negsuc m) t e h p =
+      subst (λ (k : ℕ). Put before at (45 ∷ printed k) 6 after r) e
+      (put-both before (45 ∷ []) (printed n) (set before at 45) after at 1 (at + 1) 20 r 6 (omega arith)
+      (omega (arith, few))
+      (put-byte before at 1 45 h (omega arith)) p)
+
+  -- the sample as the machine has it
+  module _ (z : ℤ) (f : SFits w16 z) (e : n ≡ natAbs (toZ w16 (ofZ w16 z))) where
+    size : n ≡ natAbs z
+    size = rw (toZ-ofZ {w = w16} {z = z} f) at e
+
+    pub put-plain : ltZ (toZ w16 (ofZ w16 z)) (pos 0) ≡ false → Put before at (printed n) 20 after r
+        → Put before at (printedSample z) 6 after r
+    put-plain t p = plain-put z (rw (toZ-ofZ {w = w16} {z = z} f) at t) size p
+
+    pub put-minus : ltZ (toZ w16 (ofZ w16 z)) (pos 0) ≡ true → at < length before
+        → Put (set before at 45) (at + 1) (printed n) 20 after r → Put before at (printedSample z) 6 after r
+    put-minus t h p = minus-put z (rw (toZ-ofZ {w = w16} {z = z} f) at t) size h p

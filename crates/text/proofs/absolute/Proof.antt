@@ -1,11 +1,11 @@
--- `numerals::text::absolute` meets its contract: -32768 is widened before it is negated.
+-- `text::absolute` meets its contract: -32768 is widened before it is negated.
 -- Assumes nothing.
 use mathlib.Core.Path.{refl}
 use native.Mathlib.Omega.{arith}
 use mir.Facts.{toZ-ofZ, sfits-widen}
 use Rattle.integers.proofs.Sixteen.{below, above}
-use Rattle.numerals.proofs.text.absolute.Statement.{statement}
-use Rattle.numerals.proofs.text.absolute.Tie as tie
+use Rattle.text.proofs.absolute.Statement.{statement}
+use Rattle.text.proofs.absolute.Tie as tie
 
 cast-result : tie.Need-cast-result
 cast-result c = let f = c .before .fits .value in rw (toZ-ofZ f) (sfits-widen tt f)

@@ -1,4 +1,4 @@
--- `numerals::text::put_natural` meets its contract: it calls itself with a tenth of the number, and puts the last digit
+-- `text::put_natural` meets its contract: it calls itself with a tenth of the number, and puts the last digit
 -- behind those of the tenth.
 -- Assumes nothing.
 use Prim.Native.Nat.{ℕ, _<_, _/_}
@@ -6,12 +6,12 @@ use native.Mathlib.Omega.{arith}
 use borrow.Author.Needs.{needs}
 use borrow.Fn.Kinds.{In}
 use borrow.Fn.PlainCycle.{Measures, is, falls, and}
-use Rattle.numerals.proofs.Printing.{few-digits, put-one, put-more}
-use Rattle.numerals.proofs.text.put_natural.Reads as put-natural
-use Rattle.numerals.proofs.text.put_natural.Kinds as put-natural-kinds
-use Rattle.numerals.proofs.text.+put_natural.Lts-put_natural as put-natural-lts
-use Rattle.numerals.proofs.text.+put_natural.{statement}
-use Rattle.numerals.proofs.text.+put_natural.Tie.{close}
+use Rattle.text.proofs.Printing.{few-digits, put-one, put-more}
+use Rattle.text.proofs.put_natural.Reads as put-natural
+use Rattle.text.proofs.put_natural.Kinds as put-natural-kinds
+use Rattle.text.proofs.+put_natural.Lts-put_natural as put-natural-lts
+use Rattle.text.proofs.+put_natural.{statement}
+use Rattle.text.proofs.+put_natural.Tie.{close}
 
 abbrev μ-put-natural : Measures 1 put-natural-kinds.ps ℕ
 μ-put-natural κs a = a .1 .1 .0

@@ -1,4 +1,4 @@
--- `numerals::text::put_word` meets its contract: byte by byte. The loop's invariant: the first i bytes of the word are
+-- `text::put_word` meets its contract: byte by byte. The loop's invariant: the first i bytes of the word are
 -- put.
 -- Assumes nothing.
 use mathlib.Core.Path.{_≡_}
@@ -6,10 +6,10 @@ use Prim.Native.Nat.{_+_, _≤_, _-_}
 use native.Mathlib.Omega.{arith}
 use borrow.Author.Needs.{needs}
 use lib.ListN.{length, take}
-use Rattle.numerals.specs.Text.{Put}
-use Rattle.numerals.proofs.Buffers.{put-none, put-next, put-whole}
-use Rattle.numerals.proofs.text.put_word.Statement.{statement}
-use Rattle.numerals.proofs.text.put_word.Tie as tie
+use Rattle.text.specs.Text.{Put}
+use Rattle.text.proofs.Buffers.{put-none, put-next, put-whole}
+use Rattle.text.proofs.put_word.Statement.{statement}
+use Rattle.text.proofs.put_word.Tie as tie
 
 abbrev Inv-loop : tie.InvT-loop
 Inv-loop out₀ at word i₀ out i =

@@ -7,7 +7,7 @@ use native.Mathlib.Numerals.{add-one}
 use native.Mathlib.Omega.{arith}
 use lib.ListN.{length, take, drop, set, getD, length-append, length-take, length-drop, take-append-drop}
 use lib.Seq.{length-take-le, take-suc, take-all, set-split, take-append-seam, drop-append-add, drop-drop}
-use Rattle.numerals.specs.Text.{Put}
+use Rattle.text.specs.Text.{Put}
 
 module _ (before : List ℕ) (at most : ℕ) where
   pub put-none : Put before at [] most before (at + 0)

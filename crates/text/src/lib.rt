@@ -1,10 +1,11 @@
-// Numbers as text. Each function writes at a place and answers the place after what it wrote.
+// Numbers and words put into a buffer. Each function writes at a place and answers the place after what it wrote; all
+// else stays as it was, for all numbers and all words. A number printed is read back as itself by `numerals`, and no
+// number has two texts (proofs/RoundTrip).
 ghost use mathlib.Core.Path.{_≡_};
 ghost use Prim.Native.Nat.{_+_, _≤_};
 ghost use lib.IntN.{natAbs};
 ghost use lib.ListN.{length};
-ghost use Rattle.numerals.specs.Number.{printed, printedSample};
-ghost use Rattle.numerals.specs.Text.{Put};
+ghost use Rattle.text.specs.Text.{printed, printedSample, Put};
 
 // The digits of a tenth, and then the last.
 pub fn put_natural(out: &mut [u8], at: usize, value: u64) -> usize

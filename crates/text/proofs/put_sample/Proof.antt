@@ -1,12 +1,12 @@
--- `numerals::text::put_sample` meets its contract: a `-` if the sample is negative, and its magnitude.
+-- `text::put_sample` meets its contract: a `-` if the sample is negative, and its magnitude.
 -- Assumes nothing.
 use mathlib.Core.Path.{_∙_}
 use native.Mathlib.Omega.{arith}
 use borrow.Author.Needs.{needs}
 use lib.ListN.{length-set}
-use Rattle.numerals.proofs.Signs.{put-minus, put-plain}
-use Rattle.numerals.proofs.text.put_sample.Statement.{statement}
-use Rattle.numerals.proofs.text.put_sample.Tie as tie
+use Rattle.text.proofs.Printing.{put-minus, put-plain}
+use Rattle.text.proofs.put_sample.Statement.{statement}
+use Rattle.text.proofs.put_sample.Tie as tie
 
 absolute-requires : tie.Need-absolute-requires
 absolute-requires c κs = search needs

@@ -1,0 +1,4 @@
+pub mod Buffers
+pub mod Printing
+pub mod RoundTrip
+pub mod Examples
