@@ -1,21 +1,18 @@
 -- The definitions at some numbers: the ends of the ranges.
 -- Assumes nothing.
 use mathlib.Core.Path.{_≡_, refl}
-use mathlib.Core.List.{[], _∷_}
 use Prim.Native.Nat.{_-_, _^_}
 use lib.IntN.{negsuc}
-use Rattle.text.specs.Text.{printed, printedSample}
+use Rattle.text.specs.Text.{bytes, printed, printedSample}
 
--- 0, 18446744073709551615 and -32768
-zero-printed : printed 0 ≡ 48 ∷ []
+zero-printed : printed 0 ≡ bytes "0"
 unfolding printed
 zero-printed = refl
 
-largest-printed : printed (2 ^ 64 - 1) ≡ 49 ∷ 56 ∷ 52 ∷ 52 ∷ 54 ∷ 55 ∷ 52 ∷ 52 ∷ 48 ∷ 55 ∷ 51 ∷ 55 ∷ 48 ∷ 57 ∷ 53 ∷ 53
-    ∷ 49 ∷ 54 ∷ 49 ∷ 53 ∷ []
+largest-printed : printed (2 ^ 64 - 1) ≡ bytes "18446744073709551615"
 unfolding printed
 largest-printed = refl
 
-lowest-printed : printedSample (negsuc 32767) ≡ 45 ∷ 51 ∷ 50 ∷ 55 ∷ 54 ∷ 56 ∷ []
+lowest-printed : printedSample (negsuc 32767) ≡ bytes "-32768"
 unfolding printedSample
 lowest-printed = refl

@@ -1,12 +1,19 @@
--- Numbers as text: how a number is printed, and what a buffer holds once a text was put into it. Bytes are ASCII codes:
--- 48 to 57 are the digits, 45 is `-`.
+-- Numbers and words as text: how a number is printed, and what a buffer holds once a text was put into it. Bytes are
+-- ASCII codes: 48 to 57 are the digits, 45 is `-`.
 use mathlib.Core.Path.{_≡_}
 use mathlib.Core.Bool.{cond}
 use mathlib.Core.List.{List, [], _∷_, _++_}
+use Prim.Native.Char.{code}
 use Prim.Native.Nat.{ℕ, zero, suc, _+_, _/_, _%_, _≤_}
+use Prim.Native.String.{String, [] as []ᵗ, _∷_ as _∷ᵗ_}
 use lib.Dec.{ltb}
 use lib.IntN.{ℤ, pos, negsuc}
 use lib.ListN.{length, take, drop}
+
+-- the codes of a word's characters
+abbrev pub bytes : String → List ℕ
+bytes []ᵗ = []
+bytes (c ∷ᵗ w) = code c ∷ bytes w
 
 -- the digits of n, the most significant first and no 0 in front: those of a tenth of it, and then the last; at most
 -- `most` of them

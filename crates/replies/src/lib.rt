@@ -1,0 +1,79 @@
+// The answer lines of the protocol, written from the start of the room for them. What is written is, byte for byte, the
+// line that specs/Reply.antt defines, for all answers and all samples.
+use text::put_natural;
+use text::put_sample;
+use text::put_word;
+ghost use mathlib.Core.Path.{_≡_};
+ghost use Prim.Native.Nat.{_*_, _≤_};
+ghost use lib.ListN.{length, take};
+ghost use Rattle.text.specs.Text.{printed, printedSample, Put};
+ghost use Rattle.replies.specs.Reply.{spaced, verdictText, replyText, malformedText, Written};
+
+// What stands before the colon: whether the call was accepted, and the first `count` numbers of the array.
+pub struct Reply {
+    pub accepted: bool,
+    pub count: usize,
+    pub numbers: [u64; 6],
+}
+
+pub fn put_malformed(out: &mut [u8]) -> usize
+    requires { ⌜ length (now out) ≡ 65536 ⌝ }
+    ensures { λ r. ⌜ Written malformedText (now (out .entry)) (now (out .exit)) r ⌝ }
+{
+    put_word(out, 0, b"malformed")
+}
+
+fn put_verdict(out: &mut [u8], accepted: bool) -> usize
+    requires { ⌜ length (now out) ≡ 65536 ⌝ }
+    ensures { λ r. ⌜ Put (now (out .entry)) 0 (verdictText accepted) 8 (now (out .exit)) r ⌝ }
+{
+    if accepted {
+        return put_word(out, 0, b"accepted");
+    }
+    put_word(out, 0, b"refused")
+}
+
+// A space and a number for each: at most 21 bytes.
+fn put_numbers(out: &mut [u8], at: usize, numbers: &[u64]) -> usize
+    requires { ⌜ (at ≤ 8) × (length (now numbers) ≤ 6) × (length (now out) ≡ 65536) ⌝ }
+    ensures { λ r. ⌜ Put (now (out .entry)) at (spaced printed (now (numbers .entry)))
+        (21 * length (now (numbers .entry))) (now (out .exit)) r ⌝ }
+{
+    let mut next = at;
+    let mut i = 0;
+    while i < numbers.len() {
+        out[next] = b' ';
+        next = put_natural(out, next + 1, numbers[i]);
+        i += 1;
+    }
+    next
+}
+
+// A space and a sample for each: at most 7 bytes.
+fn put_samples(out: &mut [u8], at: usize, samples: &[i16]) -> usize
+    requires { ⌜ (at ≤ 136) × (length (now samples) ≤ 8192) × (length (now out) ≡ 65536) ⌝ }
+    ensures { λ r. ⌜ Put (now (out .entry)) at (spaced printedSample (now (samples .entry)))
+        (7 * length (now (samples .entry))) (now (out .exit)) r ⌝ }
+{
+    let mut next = at;
+    let mut i = 0;
+    while i < samples.len() {
+        out[next] = b' ';
+        next = put_sample(out, next + 1, samples[i]);
+        i += 1;
+    }
+    next
+}
+
+// The whole answer: what a call answered, and the buffer as it left it.
+pub fn put_reply(out: &mut [u8], reply: Reply, samples: &[i16]) -> usize
+    requires { ⌜ (reply .count ≤ 6) × (length (now samples) ≤ 8192) × (length (now out) ≡ 65536) ⌝ }
+    ensures { λ r. ⌜ Written (replyText (reply .accepted) (take (reply .count) (reply .numbers)) (now (samples .entry)))
+        (now (out .entry)) (now (out .exit)) r ⌝ }
+{
+    let numbers = reply.numbers;
+    let told = put_verdict(out, reply.accepted);
+    let counted = put_numbers(out, told, &numbers[..reply.count]);
+    let parted = put_word(out, counted, b" :");
+    put_samples(out, parted, samples)
+}
