@@ -10,7 +10,7 @@ use lib.Dec.{ltb, eqb}
 use borrow.Author.Tests.{lt-ltb, le-ltb}
 use Rattle.price.specs.Level.{nearest, distortion}
 use Rattle.price.specs.Walk.{cheaper}
-use Rattle.weights.specs.declared.scale.Scale.{Scale}
+use Rattle.scaling.specs.declared.scale.Scale.{Scale}
 use Rattle.weights.specs.declared.prices.Prices.{Prices}
 use Rattle.weights.specs.declared.offers.Offer.{Offer}
 use Rattle.weights.specs.Inner.Prices.{Fine}

@@ -1,9 +1,9 @@
 // One place of the search: passed where its m is 0, else weighed. What a magnitude costs here is added to the least
 // price of what it leaves to come.
-use weights::errors::squared_below;
+use scaling::errors::squared_below;
+use scaling::scale::Scale;
 use weights::offers::make_offer;
 use weights::prices::Prices;
-use weights::scale::Scale;
 ghost use mathlib.Core.Path.{_≡_};
 ghost use Rattle.ahead.specs.Inner.Ahead.{ChosenOf, Passable, passedBy, Ready, WeighedBy};
 

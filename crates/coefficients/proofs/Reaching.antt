@@ -15,7 +15,7 @@ use Rattle.integers.specs.Sum.{over, onMax, onOr}
 use Rattle.integers.specs.Tests.{some, eqℤ}
 use Rattle.integers.proofs.Order.{below-or-not}
 use Rattle.price.specs.Level.{scaled, nearest}
-use Rattle.weights.proofs.Scaling.{nearest-of-0}
+use Rattle.scaling.proofs.Scaling.{nearest-of-0}
 use Rattle.coefficients.specs.Inner.Coefficients.{Within}
 
 -- ---- a threshold

@@ -9,8 +9,8 @@ use native.Mathlib.Numerals.{add-one}
 use lib.IntN.{ℤ, natAbs}
 use Rattle.price.specs.Level.{scaled, square}
 use Rattle.price.proofs.Level.{distortion-of-0}
-use Rattle.weights.specs.declared.scale.Scale.{Scale}
-use Rattle.weights.specs.Inner.Scale.{Sound}
+use Rattle.scaling.specs.declared.scale.Scale.{Scale}
+use Rattle.scaling.specs.Inner.Scale.{Sound}
 use Rattle.coefficients.specs.Inner.Coefficients.{Held, zeroDistortion}
 
 abbrev pub zeroError : Scale → ℕ → ℕ

@@ -2,12 +2,12 @@
 // overflow; a part is as long as 63 bits hold its squares, each below 2^30·front².
 use crate::skip::absolute;
 use crate::skip::part_end;
-use weights::scale::Scale;
+use scaling::scale::Scale;
 ghost use mathlib.Core.Path.{_≡_};
 ghost use Prim.Native.Nat.{_≤_, _*_, _^_};
 ghost use lib.ListN.{length};
 ghost use Rattle.integers.specs.Sum.{over, onℕ};
-ghost use Rattle.weights.specs.Inner.Scale.{Sound};
+ghost use Rattle.scaling.specs.Inner.Scale.{Sound};
 ghost use Rattle.coefficients.specs.Inner.Coefficients.{Within, zeroDistortion, Held};
 
 fn squares(part: &[i16], g: Scale) -> u64

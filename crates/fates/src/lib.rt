@@ -1,8 +1,8 @@
 // What became of the coefficients of a block: each level beside its rounded magnitude, and how many were kept, lowered
 // and dropped.
 use coefficients::skip::absolute;
-use weights::scale::rounded;
-use weights::scale::scale_of;
+use scaling::scale::rounded;
+use scaling::scale::scale_of;
 ghost use mathlib.Core.Path.{_≡_};
 ghost use Prim.Native.Nat.{_≤_, _+_};
 ghost use lib.IntN.{natAbs};

@@ -24,7 +24,7 @@ use Rattle.price.specs.Rule.{Rule}
 use Rattle.price.specs.Price.{uncoded, nonzeros, price}
 use Rattle.price.proofs.Blocks.{Block, allowed-block}
 use Rattle.price.proofs.Lighter.{Lighter, lighter-price, lighter-cheapest, lighter-written}
-use Rattle.weights.specs.declared.scale.Scale.{Scale}
+use Rattle.scaling.specs.declared.scale.Scale.{Scale}
 use Rattle.weights.specs.declared.prices.Prices.{Prices}
 use Rattle.weights.specs.Inner.Prices.{Fine, ruleBy}
 use Rattle.weights.specs.Inner.Places.{keptPlaces, Scanned, Weighable, Standing, Cleared}
@@ -33,7 +33,7 @@ use Rattle.coding.specs.declared.Mode.{Mode}
 use Rattle.coding.specs.declared.Mode.the-variants as modes
 use Rattle.coding.specs.Block.{writtenIn, signs}
 use Rattle.levels.specs.Inner.Levels.{keptOf, KeptAs, inOrder, placesBy, Lent, Codable, CodedAs}
-use Rattle.walk.proofs.Steps.{allowed-below}
+use Rattle.along.proofs.Steps.{allowed-below}
 use Rattle.levels.proofs.Keeping.{kept-some, kept-places, kept-uncoded, kept-lighter}
 use Rattle.coding.proofs.Modes.{length-written, zero-or-m-or-m-1}
 use Rattle.weights.proofs.Places.{same-count, everywhere, nothing-there}

@@ -21,13 +21,13 @@ use Rattle.tables.proofs.OneToOne.{scan-inside}
 use Rattle.price.specs.Level.{scaled, nearest}
 use Rattle.price.specs.Price.{uncoded}
 use Rattle.price.proofs.Lighter.{Stands, Lighter}
-use Rattle.weights.specs.declared.scale.Scale.{Scale}
+use Rattle.scaling.specs.declared.scale.Scale.{Scale}
 use Rattle.weights.specs.declared.prices.Prices.{Prices}
-use Rattle.weights.specs.Inner.Scale.{Sound}
+use Rattle.scaling.specs.Inner.Scale.{Sound}
 use Rattle.weights.specs.Inner.Prices.{ruleBy}
 use Rattle.weights.specs.Inner.Places.{keptPlaces, Scanned}
 use Rattle.levels.specs.Inner.Levels.{keptOf, inOrder}
-use Rattle.weights.proofs.Scaling.{nearest-of-0}
+use Rattle.scaling.proofs.Scaling.{nearest-of-0}
 use Rattle.weights.proofs.Places.{nothing-uncoded}
 
 pub kept-yes : (g : Scale) (z : ℤ) (a v : ℕ) → a ≡ natAbs z → g .least ≤ a → v ≡ a → v ≡ keptOf g z

@@ -4,11 +4,11 @@
 use coding::Coded;
 use coding::Mode;
 use coefficients::skip::absolute;
+use scaling::scale::Scale;
 use search::find_levels;
 use tables::scan::fill_scan;
 use walk::choose_levels;
 use weights::prices::Prices;
-use weights::scale::Scale;
 ghost use mathlib.Core.Path.{_≡_};
 ghost use Prim.Native.Nat.{ℕ, _≤_, _^_};
 ghost use lib.ListN.{length, getD};

@@ -12,10 +12,11 @@ use Rattle.integers.proofs.Order.{below-or-not}
 use Rattle.price.specs.declared.Costs.{Costs}
 use Rattle.price.specs.Level.{scaled, nearest}
 use Rattle.price.specs.Costs.{InRange, Rows, entry}
-use Rattle.weights.specs.declared.scale.Scale.{Scale}
+use Rattle.scaling.specs.declared.scale.Scale.{Scale}
 use Rattle.weights.specs.declared.prices.Prices.{Prices}
-use Rattle.weights.specs.Inner.Scale.{Sound}
-use Rattle.weights.specs.Inner.Prices.{Fine, pricesOf}
+use Rattle.scaling.specs.Inner.Scale.{Sound}
+use Rattle.weights.specs.Inner.Prices.{Fine}
+use Rattle.contexts.specs.Inner.Reading.{pricesOf}
 use Rattle.coefficients.specs.Inner.Coefficients.{Held, Within}
 use Rattle.coefficients.proofs.Reaching.{nearest-grows, within-largest}
 

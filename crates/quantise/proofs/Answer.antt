@@ -31,7 +31,7 @@ use Rattle.price.specs.Costs.{Rows, costRefused, rate}
 use Rattle.price.specs.Rule.{Rule}
 use Rattle.price.specs.Price.{uncoded, nonzeros, price}
 use Rattle.coding.specs.declared.Coded.{Coded}
-use Rattle.weights.specs.declared.scale.Scale.{Scale}
+use Rattle.scaling.specs.declared.scale.Scale.{Scale}
 use Rattle.weights.specs.declared.prices.Prices.{Prices}
 use Rattle.price.specs.Rows.{rowsOf}
 use Rattle.coding.specs.declared.Coding.{Coding}
@@ -41,12 +41,13 @@ use Rattle.coding.specs.Block.{laid, countOf, priceOf, quantised}
 use Rattle.coding.specs.Call.{sideFault, qpFault, lambdaFault, costFault, lengthFault, sampleFault, largestHere}
 use Rattle.coding.specs.Call.{levelFault, priceFault, uncodedHere, distortionFault, quantFaults, quantVerdict}
 use Rattle.coding.specs.Call.{coded, quantAnswer, quantBuffer}
-use Rattle.weights.specs.Inner.Scale.{ScaleOf}
-use Rattle.weights.specs.Inner.Prices.{pricesOf, ruleBy}
+use Rattle.scaling.specs.Inner.Scale.{ScaleOf}
+use Rattle.weights.specs.Inner.Prices.{ruleBy}
+use Rattle.contexts.specs.Inner.Reading.{pricesOf}
 use Rattle.quantise.specs.Inner.Early.{EarlyPassed}
 use Rattle.coefficients.specs.Inner.Coefficients.{zeroDistortion}
 use Rattle.levels.specs.Inner.Levels.{placesBy, inOrder, CodedAs}
-use Rattle.weights.proofs.Pricing.{rate-weighed}
+use Rattle.contexts.proofs.Pricing.{rate-weighed}
 use Rattle.coefficients.proofs.Reaching.{largest-is}
 use Rattle.coding.proofs.Laid.{signs-at, signs-length, laid-length, laid-on-scan}
 

@@ -15,7 +15,7 @@ use Rattle.price.specs.Inner.Search.{some, plus, under, lesser, ending, goingOn
 use Rattle.price.specs.Inner.Search.{withLevel}
 use Rattle.price.specs.Inner.Search.{takenBy, leastBy, taken, ahead}
 use Rattle.price.specs.Inner.Search as of-price
-use Rattle.weights.specs.declared.scale.Scale.{Scale}
+use Rattle.scaling.specs.declared.scale.Scale.{Scale}
 use Rattle.weights.specs.declared.prices.Prices.{Prices}
 use Rattle.weights.specs.Inner.Prices.{zeroPrice, headPrice, rateBy, ruleBy}
 use Rattle.weights.specs.Inner.Offers.{bare, offered}

@@ -16,7 +16,7 @@ use Rattle.price.specs.Inner.Search.{Least, none, some, plus, under, lesser, ah
 use Rattle.price.specs.Inner.Search.{found}
 use Rattle.price.specs.Inner.Search.{foundPrice, readOff}
 use Rattle.price.proofs.Search.{found-is-cheapest, found-price}
-use Rattle.weights.specs.declared.scale.Scale.{Scale}
+use Rattle.scaling.specs.declared.scale.Scale.{Scale}
 use Rattle.weights.specs.declared.prices.Prices.{Prices}
 use Rattle.weights.specs.Inner.Prices.{ruleBy}
 use Rattle.weights.specs.Inner.Places.{keptPlaces, Standing}

@@ -14,11 +14,11 @@ use Rattle.price.specs.Price.{uncoded}
 use Rattle.price.specs.Inner.Search.{Least, none, some, plus, under, lesser, withZero, takenBy, leastBy, taken, ahead}
 use Rattle.price.specs.Inner.Search as of-price
 use Rattle.price.proofs.Search.{quiet-ahead}
-use Rattle.weights.specs.declared.scale.Scale.{Scale}
+use Rattle.scaling.specs.declared.scale.Scale.{Scale}
 use Rattle.weights.specs.declared.prices.Prices.{Prices}
-use Rattle.weights.specs.Inner.Scale.{Sound}
+use Rattle.scaling.specs.Inner.Scale.{Sound}
 use Rattle.weights.specs.Inner.Prices.{Modest, zeroPrice, rateBy, ruleBy}
-use Rattle.weights.proofs.Scaling.{nearest-of-0}
+use Rattle.scaling.proofs.Scaling.{nearest-of-0}
 use Rattle.weights.proofs.Places.{nothing-uncoded}
 use Rattle.ahead.specs.declared.Ahead.{Ahead}
 use Rattle.ahead.specs.Inner.Ahead.{passedBy}

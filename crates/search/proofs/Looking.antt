@@ -13,7 +13,7 @@ use Rattle.tables.specs.Scan.{scanAt}
 use Rattle.price.specs.Rule.{Rule}
 use Rattle.price.specs.Price.{uncoded}
 use Rattle.price.specs.Inner.Search.{ahead, taken, goesOn}
-use Rattle.weights.specs.declared.scale.Scale.{Scale}
+use Rattle.scaling.specs.declared.scale.Scale.{Scale}
 use Rattle.weights.specs.declared.prices.Prices.{Prices}
 use Rattle.weights.specs.Inner.Prices.{ruleBy}
 use Rattle.weights.specs.Inner.Places.{keptAt, keptPlaces, Scanned}

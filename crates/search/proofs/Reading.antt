@@ -14,9 +14,9 @@ use Rattle.price.specs.Level.{nearest}
 use Rattle.price.specs.Rule.{Rule, isZero}
 use Rattle.price.specs.Cheapest.{emptyBlock}
 use Rattle.price.specs.Inner.Search.{Ahead, ahead, taken, takenBy, goesOn, readOff}
-use Rattle.weights.specs.declared.scale.Scale.{Scale}
+use Rattle.scaling.specs.declared.scale.Scale.{Scale}
 use Rattle.weights.specs.declared.prices.Prices.{Prices}
-use Rattle.weights.specs.Inner.Scale.{Sound}
+use Rattle.scaling.specs.Inner.Scale.{Sound}
 use Rattle.weights.specs.Inner.Prices.{ruleBy}
 use Rattle.weights.specs.Inner.Places.{keptAt, keptPlaces, Scanned, Cleared}
 use Rattle.weights.proofs.Places.{places-count, place-at, nothing-there}

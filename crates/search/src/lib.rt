@@ -4,8 +4,8 @@
 use crate::passes::last_place;
 use crate::passes::look_back;
 use crate::passes::read_off;
+use scaling::scale::Scale;
 use weights::prices::Prices;
-use weights::scale::Scale;
 ghost use mathlib.Core.Path.{_≡_};
 ghost use Prim.Native.Nat.{_*_};
 ghost use lib.ListN.{length};

@@ -1,11 +1,11 @@
 // The two passes: back along the scan, noting what to choose at each place, and forth, reading it off.
 use ahead::Ahead;
+use scaling::scale::Scale;
 use tables::scan::block_place;
 use tables::scan::magnitude_at;
 use tables::scan::put_magnitude;
 use tables::scan::scan_place;
 use weights::prices::Prices;
-use weights::scale::Scale;
 ghost use mathlib.Core.Path.{_≡_};
 ghost use Prim.Native.Nat.{_≤_, _<_, _*_};
 ghost use lib.ListN.{length};

@@ -1,2 +1,1 @@
-pub mod Weighing
-pub mod Steps
+pub mod Cutting

@@ -1,6 +1,4 @@
-pub mod Scaling
-pub mod Squaring
-pub mod Pricing
+pub mod Levels
 pub mod Offering
 pub mod Places
 pub mod Filling

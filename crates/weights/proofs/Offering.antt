@@ -3,17 +3,18 @@
 use mathlib.Core.Path.{_≡_, refl, sym, ap, _∙_}
 use mathlib.Core.Logic.{_⊎_, inl, inr}
 use mathlib.Core.Bool.{Bool, true, false, cond}
-use Prim.Native.Nat.{ℕ, zero, suc, _+_, _-_, _≤_, _<_, _^_}
+use Prim.Native.Nat.{ℕ, zero, suc, _+_, _-_, _*_, _≤_, _<_, _^_}
+use native.Mathlib.Nat.{mul-le-mul-right}
 use native.Mathlib.Omega.{arith}
 use lib.Dec.{ltb}
 use borrow.Author.Tests.{ltb-true, ltb-false, lt-ltb, le-ltb, ne-eqb}
 use Rattle.price.specs.Level.{nearest}
 use Rattle.price.specs.Rule.{cost}
 use Rattle.price.specs.Walk.{cheaper}
-use Rattle.weights.specs.declared.scale.Scale.{Scale}
+use Rattle.scaling.specs.declared.scale.Scale.{Scale}
+use Rattle.scaling.specs.Inner.Scale.{Distortion}
 use Rattle.weights.specs.declared.prices.Prices.{Prices}
-use Rattle.weights.specs.Inner.Scale.{Distortion}
-use Rattle.weights.specs.Inner.Prices.{Priced, headPrice, rateBy, ruleBy}
+use Rattle.weights.specs.Inner.Prices.{Fine, Priced, headPrice, rateBy, ruleBy}
 use Rattle.weights.specs.Inner.Offers.{bare, firstOf, offered, Offered}
 
 -- ---- the cheaper of two
@@ -49,6 +50,9 @@ module _ (p : Prices) (g : Scale) where
 
 -- ---- the offer
 module _ (p : Prices) (g : Scale) (L : ℕ) where
+  pub each-below : Fine p g L → (a : ℕ) → a ≤ nearest (g .shift) L → a * p .each ≤ 2 ^ 61
+  each-below f a h = omega (arith, f .price, mul-le-mul-right (p .each) h)
+
   pub bare-is : (a d r : ℕ) → Distortion g L a d → Priced p a r → d + r ≡ bare p g L a
   unfolding bare
   bare-is a d r hd hr = rw (hd .is, hr .is)

@@ -20,12 +20,12 @@ use Rattle.price.specs.Level.{nearest}
 use Rattle.price.specs.Price.{nonzeros}
 use Rattle.price.proofs.Level.{distortion-of-0}
 use Rattle.price.proofs.Counting.{ones, nonzeros-over, nonzeros-next, some-left, none-left}
-use Rattle.weights.specs.declared.scale.Scale.{Scale}
+use Rattle.scaling.specs.declared.scale.Scale.{Scale}
 use Rattle.weights.specs.declared.prices.Prices.{Prices}
-use Rattle.weights.specs.Inner.Scale.{Sound}
+use Rattle.scaling.specs.Inner.Scale.{Sound}
 use Rattle.weights.specs.Inner.Prices.{ruleBy}
 use Rattle.weights.specs.Inner.Places.{keptAt, inScan, keptFrom, keptPlaces, Scanned, Weighable, Standing}
-use Rattle.weights.proofs.Scaling.{nearest-of-0}
+use Rattle.scaling.proofs.Scaling.{nearest-of-0}
 
 -- ---- levels that stand for ls
 module _ (width height : ℕ) (held : List ℕ) (sc : Scanned width height held) (ls : List ℕ)

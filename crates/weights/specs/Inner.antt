@@ -1,6 +1,4 @@
 -- What functions say to one another: nobody has to believe it, as what a call promises does not cite it.
-pub mod Rows
-pub mod Scale
 pub mod Prices
 pub mod Offers
 pub mod Places

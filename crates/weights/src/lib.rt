@@ -1,6 +1,4 @@
-// What the levels of a block are weighed by, worked out once a block: its scale, its prices, and what is left of a
-// coefficient. The rule of the `price` crate is read off the two; the walk and the search go by it.
-pub mod errors;
+// What a place of a block is weighed by: the block's prices, as code holds them, and the one offer of the place. With
+// the scale they make the rule of the `price` crate; the walk and the search go by it.
 pub mod offers;
 pub mod prices;
-pub mod scale;

@@ -1,11 +1,11 @@
 // The one offer of a place whose m is above 0: the cheaper of m and m - 1, which does not depend on the level before.
-use crate::errors::squared;
-use crate::errors::squared_below;
 use crate::prices::Prices;
-use crate::scale::Scale;
+use scaling::errors::squared;
+use scaling::errors::squared_below;
+use scaling::scale::Scale;
 ghost use Prim.Native.Nat.{_≤_};
 ghost use Rattle.price.specs.Level.{nearest};
-ghost use Rattle.weights.specs.Inner.Scale.{Sound};
+ghost use Rattle.scaling.specs.Inner.Scale.{Sound};
 ghost use Rattle.weights.specs.Inner.Prices.{Modest, Fine};
 ghost use Rattle.weights.specs.Inner.Offers.{Offered};
 

@@ -5,9 +5,9 @@ use mathlib.Core.Bool.{true, cond}
 use Prim.Native.Nat.{ℕ, _+_, _^_, _≤_}
 use lib.Dec.{ltb}
 use Rattle.price.specs.Level.{nearest, distortion}
-use Rattle.weights.specs.declared.scale.Scale.{Scale}
+use Rattle.scaling.specs.declared.scale.Scale.{Scale}
 use Rattle.weights.specs.declared.prices.Prices.{Prices}
-use Rattle.weights.specs.Inner.Scale.{Sound}
+use Rattle.scaling.specs.Inner.Scale.{Sound}
 use Rattle.weights.specs.Inner.Prices.{Modest, Fine}
 use Rattle.weights.specs.Inner.Offers.{bare, offered}
 use Rattle.ahead.specs.declared.Ahead.{Ahead}

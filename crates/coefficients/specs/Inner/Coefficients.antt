@@ -7,7 +7,7 @@ use lib.IntN.{ℤ, negsuc, natAbs}
 use Rattle.integers.specs.Sum.{at, over, onMax}
 use Rattle.integers.specs.Tests.{some, eqℤ}
 use Rattle.price.specs.Level.{scaled, distortion}
-use Rattle.weights.specs.declared.scale.Scale.{Scale}
+use Rattle.scaling.specs.declared.scale.Scale.{Scale}
 
 -- the largest |c|, by which also shows whether some coefficient is -32768
 pub record Largest (block : List ℤ) (r : ℕ) : Type 0 where

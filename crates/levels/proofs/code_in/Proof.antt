@@ -7,7 +7,7 @@ use borrow.Author.Needs.{needs}
 use Rattle.refusals.specs.Sides.{mostLog2}
 use Rattle.weights.specs.Inner.Places.{Scanned}
 use Rattle.levels.specs.Inner.Levels.{Codable, CodedAs}
-use Rattle.weights.proofs.Scaling.{bit}
+use Rattle.scaling.proofs.Scaling.{bit}
 use Rattle.levels.proofs.Coding.{area-range, area-is, scan-held, choosable, room-left, level-small, coded-as}
 use Rattle.levels.proofs.code_in.Statement.{statement}
 use Rattle.levels.proofs.code_in.Tie as tie

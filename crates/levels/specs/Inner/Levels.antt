@@ -11,9 +11,9 @@ use Rattle.integers.specs.Sum.{at}
 use Rattle.tables.specs.Scan.{scan}
 use Rattle.price.specs.Level.{scaled}
 use Rattle.price.specs.Price.{uncoded, nonzeros, price}
-use Rattle.weights.specs.declared.scale.Scale.{Scale}
+use Rattle.scaling.specs.declared.scale.Scale.{Scale}
 use Rattle.weights.specs.declared.prices.Prices.{Prices}
-use Rattle.weights.specs.Inner.Scale.{Sound}
+use Rattle.scaling.specs.Inner.Scale.{Sound}
 use Rattle.weights.specs.Inner.Prices.{Modest, Fine, ruleBy}
 use Rattle.weights.specs.Inner.Places.{Cleared}
 use Rattle.coefficients.specs.Inner.Coefficients.{Within}

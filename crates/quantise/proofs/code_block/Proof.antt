@@ -22,7 +22,7 @@ use Rattle.price.specs.Rows.{rowsOf}
 use Rattle.coding.specs.Block.{Quant, called, isSkipped, lambdaHere}
 use Rattle.coding.specs.Call.{quantFaults, sampleFault, levelFault, priceFault, distortionFault, largestHere}
 use Rattle.coding.specs.Call.{uncodedHere}
-use Rattle.weights.specs.Inner.Prices.{pricesOf}
+use Rattle.contexts.specs.Inner.Reading.{pricesOf}
 use Rattle.coefficients.specs.Inner.Coefficients.{Held}
 use Rattle.tables.proofs.Range.{scale-range}
 use Rattle.coefficients.proofs.Reaching.{lowest-reaches}

@@ -18,7 +18,7 @@ use Rattle.coding.specs.Block.{Quant, called}
 use Rattle.coding.specs.Call.{quantFaults, sideFault, qpFault, lambdaFault, costFault, lengthFault, quantAnswer}
 use Rattle.coding.specs.Call.{quantBuffer}
 use Rattle.coding.proofs.Surplus.{surplus-untested, surplus-carried}
-use Rattle.weights.proofs.Scaling.{bit}
+use Rattle.scaling.proofs.Scaling.{bit}
 use Rattle.quantise.proofs.Answer.{refused-answer, side-test, qp-high, qp-right, lambda-test, cost-test}
 use Rattle.quantise.proofs.Answer.{length-low, late}
 use Rattle.quantise.proofs.quant_nnz.Statement.{statement}

@@ -8,9 +8,9 @@ use lib.ListN.{length, getD, drop}
 use Rattle.price.specs.Rule.{isZero}
 use Rattle.price.specs.Price.{uncoded}
 use Rattle.price.specs.Inner.Search.{Least, none, some, ahead, taken, goesOn, readOff}
-use Rattle.weights.specs.declared.scale.Scale.{Scale}
+use Rattle.scaling.specs.declared.scale.Scale.{Scale}
 use Rattle.weights.specs.declared.prices.Prices.{Prices}
-use Rattle.weights.specs.Inner.Scale.{Sound}
+use Rattle.scaling.specs.Inner.Scale.{Sound}
 use Rattle.weights.specs.Inner.Prices.{ruleBy}
 use Rattle.weights.specs.Inner.Places.{keptAt, keptPlaces, Weighable, Standing}
 use Rattle.ahead.specs.declared.Ahead.{Ahead}

@@ -2,16 +2,16 @@
 -- Assumes nothing.
 use native.Mathlib.Omega.{arith}
 use borrow.Author.Needs.{needs}
-use Rattle.walk.proofs.Steps.{chosen-by}
+use Rattle.walk.proofs.Cutting.{chosen-by}
 use Rattle.walk.proofs.choose_levels.Statement.{statement}
 use Rattle.walk.proofs.choose_levels.Tie as tie
 
 -- where the walk is called, and the call's start
 abbrev start : tie.After-walk-places-arg → tie.Start
-start c = c .before .before .before .before .before .before
+start c = let lent = c .before .before .before in lent .before .before .before
 
 abbrev walking : tie.After-cut-behind → tie.After-walk-places
-walking c = c .before .before .before .before .before
+walking c = let totals = c .before .before in totals .before .before .before
 
 add-t13 : tie.Need-add-t13
 add-t13 c = search needs

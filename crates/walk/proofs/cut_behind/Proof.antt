@@ -6,8 +6,8 @@ use native.Mathlib.Omega.{arith}
 use lib.ListN.{length, set}
 use borrow.Author.Needs.{needs}
 use Rattle.tables.specs.Scan.{scanAt}
-use Rattle.walk.specs.Inner.Walking.{CutBehind}
-use Rattle.walk.proofs.Steps.{cut-none, cut-more, cut-done}
+use Rattle.walk.specs.Inner.Cutting.{CutBehind}
+use Rattle.walk.proofs.Cutting.{cut-none, cut-more, cut-done}
 use Rattle.walk.proofs.cut_behind.Statement.{statement}
 use Rattle.walk.proofs.cut_behind.Tie as tie
 
@@ -18,15 +18,15 @@ Inv-loop levels₀ scan width height cut end n₀ levels n =
 abbrev μ-loop : tie.MeasureT-loop
 μ-loop levels₀ scan width height cut end n₀ levels n = end - n
 
--- the call's inputs, and the loop's head and turn
+-- the call's inputs, and the loop's turn and head
 abbrev start : tie.At-loop Inv-loop μ-loop → tie.Start Inv-loop μ-loop
 start c = c .before .before .before
 
-abbrev head : tie.After-block-place Inv-loop μ-loop → tie.At-loop Inv-loop μ-loop
-head c = c .before .before .before .before
-
 abbrev turn : tie.After-block-place Inv-loop μ-loop → tie.In-loop Inv-loop μ-loop
 turn c = c .before .before .before
+
+abbrev head : tie.After-block-place Inv-loop μ-loop → tie.At-loop Inv-loop μ-loop
+head c = turn c .before
 
 loop-holds : tie.Need-loop-holds Inv-loop μ-loop
 loop-holds c =

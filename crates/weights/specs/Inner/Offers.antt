@@ -5,7 +5,7 @@ use Prim.Native.Nat.{ℕ, _+_, _-_, _^_, _≤_}
 use lib.Dec.{eqb}
 use Rattle.price.specs.Level.{nearest, distortion}
 use Rattle.price.specs.Walk.{cheaper}
-use Rattle.weights.specs.declared.scale.Scale.{Scale}
+use Rattle.scaling.specs.declared.scale.Scale.{Scale}
 use Rattle.weights.specs.declared.prices.Prices.{Prices}
 use Rattle.weights.specs.declared.offers.Offer.{Offer}
 use Rattle.weights.specs.Inner.Prices.{levelPrice}

@@ -7,9 +7,9 @@ use lib.ListN.{length, getD, drop}
 use Rattle.tables.specs.Scan.{mostPlaces, scan, scanAt}
 use Rattle.price.specs.Level.{nearest}
 use Rattle.price.specs.Price.{nonzeros}
-use Rattle.weights.specs.declared.scale.Scale.{Scale}
+use Rattle.scaling.specs.declared.scale.Scale.{Scale}
 use Rattle.weights.specs.declared.prices.Prices.{Prices}
-use Rattle.weights.specs.Inner.Scale.{Sound}
+use Rattle.scaling.specs.Inner.Scale.{Sound}
 use Rattle.weights.specs.Inner.Prices.{Modest, Fine}
 
 -- what is kept for scan place n, all of it in scan order, and how much of it from place n on

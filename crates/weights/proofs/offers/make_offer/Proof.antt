@@ -6,9 +6,10 @@ use Prim.Native.Nat.{ℕ, _≤_, _-_}
 use native.Mathlib.Nat.{le-of-eq, mul-le-mul-left}
 use native.Mathlib.Omega.{arith}
 use borrow.Author.Needs.{needs}
-use Rattle.weights.proofs.Scaling.{unit-range, rounding}
-use Rattle.weights.proofs.Squaring.{near-below, within, each-below}
-use Rattle.weights.proofs.Offering.{bare-is, offer-one, offer-less, offer-tied, offer-upper, some-left}
+use Rattle.scaling.proofs.Scaling.{unit-range, rounding}
+use Rattle.scaling.proofs.Squaring.{near-below, within}
+use Rattle.weights.proofs.Offering.{bare-is, each-below, offer-one, offer-less, offer-tied, offer-upper}
+use Rattle.weights.proofs.Offering.{some-left}
 use Rattle.weights.proofs.offers.make_offer.Statement.{statement}
 use Rattle.weights.proofs.offers.make_offer.Tie as tie
 
@@ -41,7 +42,7 @@ squared-requires : tie.Need-squared-requires
 squared-requires c κs =
     let s = c .before .before in (
       s .pre .1,
-      near-below (s .args .p) (s .args .g) (s .args .l) (s .pre .1) (s .pre .2) _
+      near-below (s .args .g) (s .args .l) (s .pre .1) (s .pre .2 .near) _
           (le-of-eq (rounding (s .args .g) (s .pre .1) (s .args .l))),
     )
 
@@ -50,7 +51,7 @@ level-at-requires c κs =
     let s = c .before .before .before in (
       subst (λ (k : ℕ). 1 ≤ k) (sym (rounding (s .args .g) (s .pre .1) (s .args .l))) (s .pre .3),
       s .pre .0,
-      each-below (s .args .p) (s .args .g) (s .args .l) (s .pre .1) (s .pre .2) _
+      each-below (s .args .p) (s .args .g) (s .args .l) (s .pre .2) _
           (le-of-eq (rounding (s .args .g) (s .pre .1) (s .args .l))),
     )
 
@@ -76,8 +77,8 @@ squared-below-requires c κs =
     let s = start-of-squared (c .before .before) in
     let e = (rounding (s .args .g) (s .pre .1) (s .args .l)) in (
       s .pre .1,
-      near-below (s .args .p) (s .args .g) (s .args .l) (s .pre .1) (s .pre .2) _ (omega arith),
-      rw e (within (s .args .p) (s .args .g) (s .args .l) (s .pre .1) (s .pre .2)),
+      near-below (s .args .g) (s .args .l) (s .pre .1) (s .pre .2 .near) _ (omega arith),
+      rw e (within (s .args .g) (s .args .l) (s .pre .1)),
     )
 
 level-at-requires-2 : tie.Need-level-at-requires-2
@@ -86,7 +87,7 @@ level-at-requires-2 c κs =
     let e = (rounding (s .args .g) (s .pre .1) (s .args .l)) in (
       some-left _ _ (c .before .if1 .left) (subst (λ (k : ℕ). 1 ≤ k) (sym e) (s .pre .3)) refl,
       s .pre .0,
-      each-below (s .args .p) (s .args .g) (s .args .l) (s .pre .1) (s .pre .2) _ (omega arith),
+      each-below (s .args .p) (s .args .g) (s .args .l) (s .pre .2) _ (omega arith),
     )
 
 add-d : tie.Need-add-d
@@ -100,7 +101,7 @@ abbrev one : Both → tie.Else1
 one w = w .before .before
 
 abbrev start : Both → tie.Start
-start w = one w .before .before .before .before .before
+start w = start-of-squared (one w .before .before)
 
 returns-2 : tie.Need-returns-2
 returns-2 c =

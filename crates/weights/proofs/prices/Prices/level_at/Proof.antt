@@ -3,7 +3,7 @@
 use native.Mathlib.Omega.{arith}
 use native.Mathlib.Nat.{mul-le-mul-right, sub-le}
 use borrow.Author.Needs.{needs}
-use Rattle.weights.proofs.Pricing.{price-one, price-more}
+use Rattle.weights.proofs.Levels.{price-one, price-more}
 use Rattle.weights.proofs.prices.Prices.level_at.Statement.{statement}
 use Rattle.weights.proofs.prices.Prices.level_at.Tie as tie
 

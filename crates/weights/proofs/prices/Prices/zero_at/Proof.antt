@@ -2,7 +2,7 @@
 -- Assumes nothing.
 use mathlib.Core.Path.{refl}
 use borrow.Author.Needs.{needs}
-use Rattle.weights.proofs.Pricing.{after-level}
+use Rattle.weights.proofs.Levels.{after-level}
 use Rattle.weights.proofs.prices.Prices.zero_at.Statement.{statement}
 use Rattle.weights.proofs.prices.Prices.zero_at.Tie as tie
 
