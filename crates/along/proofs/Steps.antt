@@ -12,7 +12,7 @@ use native.Mathlib.Nat.{mul-le-mul, eq-or-lt-of-le, not-suc-le-zero, le-of-suc-l
 use lib.ListN.{length, getD, set, take, drop, length-set, length-drop, List·getD-eq-default}
 use lib.Seq.{getD-drop, drop-cons}
 use Rattle.integers.proofs.Order.{below-or-not}
-use Rattle.tables.specs.Scan.{scanAt}
+use Rattle.scan.specs.Scan.{scanAt}
 use Rattle.price.specs.Level.{nearest, distortion}
 use Rattle.price.specs.Rule.{Rule, Allowed, isZero}
 use Rattle.price.specs.Price.{uncoded, nonzeros}

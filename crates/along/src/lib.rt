@@ -2,10 +2,10 @@
 // totals and the levels are the definition's (specs/Walk.antt and specs/Inner/OnePass.antt of `price`).
 use scaling::scale::Scale;
 use step::Walk;
-use tables::scan::block_place;
-use tables::scan::magnitude_at;
-use tables::scan::put_magnitude;
-use tables::scan::scan_place;
+use scan::block_place;
+use scan::magnitude_at;
+use scan::put_magnitude;
+use scan::scan_place;
 use weights::prices::Prices;
 ghost use mathlib.Core.Path.{_≡_};
 ghost use mathlib.Core.Bool.{cond};

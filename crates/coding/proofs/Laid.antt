@@ -12,8 +12,8 @@ use lib.ListN.{length, getD, set, length-set, drop, length-drop}
 use lib.Seq.{getD-set-same, getD-set-other, getD-drop, ext-getD}
 use lib.IntN.{ℤ, pos}
 use Rattle.integers.specs.Sum.{at}
-use Rattle.tables.specs.Scan.{scan, scanAt}
-use Rattle.tables.proofs.OneToOne.{scan-inside, scan-apart}
+use Rattle.scan.specs.Scan.{scan, scanAt}
+use Rattle.scan.proofs.OneToOne.{scan-inside, scan-apart}
 use Rattle.price.specs.Level.{signed}
 use Rattle.coding.specs.Block.{signs, laid}
 

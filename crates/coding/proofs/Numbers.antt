@@ -9,7 +9,7 @@ use Prim.Native.Nat.{ℕ}
 use lib.ListN.{replicate}
 use lib.IntN.{ℤ, pos, negsuc, negℤ}
 use lib.Ieee.{Float, fin, nan}
-use Rattle.tables.specs.Scan.{scanAt}
+use Rattle.scan.specs.Scan.{scanAt}
 use Rattle.refusals.specs.declared.Component.{Component}
 use Rattle.refusals.specs.declared.Component.the-variants.{Y, U, «V»}
 use Rattle.refusals.specs.Faults.{refused}

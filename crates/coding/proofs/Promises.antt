@@ -18,8 +18,8 @@ use lib.IntN.{ℤ, pos, natAbs}
 use Rattle.integers.specs.Sum.{at}
 use Rattle.integers.specs.Tests.{some}
 use Rattle.integers.proofs.Lists.{map-at, none-passes, passed-by-none}
-use Rattle.tables.specs.Scan.{scan, scanAt}
-use Rattle.tables.proofs.OneToOne.{scan-length}
+use Rattle.scan.specs.Scan.{scan, scanAt}
+use Rattle.scan.proofs.OneToOne.{scan-length}
 use Rattle.refusals.specs.Faults.{passed}
 use Rattle.price.specs.Level.{scaled, nearest, threshold, signed}
 use Rattle.price.specs.Rule.{Allowed}

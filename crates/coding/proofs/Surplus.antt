@@ -15,8 +15,8 @@ use borrow.Author.Tests.{le-ltb}
 use Rattle.integers.specs.Sum.{at}
 use Rattle.integers.specs.Tests.{some, eqℤ}
 use Rattle.integers.proofs.Lists.{map-at}
-use Rattle.tables.specs.Scan.{scan, scanAt}
-use Rattle.tables.proofs.OneToOne.{scan-inside}
+use Rattle.scan.specs.Scan.{scan, scanAt}
+use Rattle.scan.proofs.OneToOne.{scan-inside}
 use Rattle.refusals.specs.Faults.{Outcome, accepted, refused, ifAccepted}
 use Rattle.refusals.proofs.First.{Alike, all, next, same-verdict}
 use Rattle.price.specs.Level.{scaled, nearest, threshold}

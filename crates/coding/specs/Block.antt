@@ -9,7 +9,7 @@ use lib.ListN.{set}
 use lib.IntN.{ℤ}
 use Rattle.integers.specs.Sum.{at}
 use Rattle.integers.specs.Tests.{some}
-use Rattle.tables.specs.Scan.{scan}
+use Rattle.scan.specs.Scan.{scan}
 use Rattle.tables.specs.Scales.{forward, scaleOf, errorScale}
 use Rattle.refusals.specs.declared.Component.{Component}
 use Rattle.price.specs.declared.Costs.{Costs}

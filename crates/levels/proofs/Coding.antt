@@ -5,19 +5,19 @@ use mathlib.Core.Path.{_≡_, refl, sym, ap, subst, _∙_}
 use mathlib.Core.Logic.{⊎-elim}
 use mathlib.Core.Bool.{Bool, true, false, cond}
 use mathlib.Core.List.{List, map}
-use Prim.Native.Nat.{ℕ, _+_, _-_, _*_, _^_, _≤_, _<_}
+use Prim.Native.Nat.{ℕ, _*_, _^_, _≤_, _<_}
 use native.Mathlib.Nat.{mul-le-mul, zero-mul}
 use native.Mathlib.Omega.{arith}
 use lib.Dec.{leb}
 use lib.Pow.{pow-mono, pow-pos}
-use lib.ListN.{length, getD, take, replicate, length-map, List·getD-eq-default}
+use lib.ListN.{length, getD, length-map, List·getD-eq-default}
 use lib.IntN.{ℤ, pos, natAbs}
 use borrow.Author.Tests.{leb-true}
 use Rattle.integers.specs.Sum.{at}
 use Rattle.integers.proofs.Order.{below-or-not}
 use Rattle.integers.proofs.Lists.{map-at}
-use Rattle.tables.specs.Scan.{scan, squareScan}
-use Rattle.tables.proofs.OneToOne.{scan-length, square-scan-length}
+use Rattle.scan.specs.Scan.{scan, squareScan}
+use Rattle.scan.proofs.OneToOne.{scan-length, square-scan-length}
 use Rattle.refusals.specs.Sides.{mostLog2}
 use Rattle.price.specs.Level.{scaled, nearest}
 use Rattle.price.specs.Rule.{Rule}
@@ -32,13 +32,13 @@ use Rattle.weights.specs.Inner.Choosing.{Choosable, ChosenBy}
 use Rattle.coding.specs.declared.Mode.{Mode}
 use Rattle.coding.specs.declared.Mode.the-variants as modes
 use Rattle.coding.specs.Block.{writtenIn, signs}
-use Rattle.levels.specs.Inner.Levels.{keptOf, KeptAs, inOrder, placesBy, Lent, Codable, CodedAs}
+use Rattle.signs.specs.Inner.Signs.{keptOf, KeptAs, inOrder}
+use Rattle.levels.specs.Inner.Levels.{placesBy, Codable, CodedAs}
 use Rattle.along.proofs.Steps.{allowed-below}
-use Rattle.levels.proofs.Keeping.{kept-some, kept-places, kept-uncoded, kept-lighter}
+use Rattle.signs.proofs.Keeping.{kept-some, kept-places, kept-uncoded, kept-lighter}
 use Rattle.coding.proofs.Modes.{length-written, zero-or-m-or-m-1}
 use Rattle.weights.proofs.Places.{same-count, everywhere, nothing-there}
-use Rattle.weights.proofs.Rooms.{lent, cleared}
-use Rattle.levels.proofs.Signing.{same-block}
+use Rattle.signs.proofs.Signing.{same-block}
 
 -- ---- a square block
 pub area-range : (most l : ℕ) → l ≤ most → 2 ^ l * 2 ^ l ≤ 2 ^ most * 2 ^ most
@@ -58,26 +58,6 @@ module _ (l : ℕ) (hi : l ≤ mostLog2) where
         high = omega (arith, pow-pos l);
         full = ap (λ (k : ℕ). length (scan k k)) e ∙ scan-length l l hi hi ∙ ap (λ (k : ℕ). k * k) (sym e);
         few = omega (arith, area-range mostLog2 l hi, ap (λ (k : ℕ). k * k) e);
-      }
-
--- the rooms of a block of side 2^l up to 2^most, lent from arrays as large as that side's block
-module _ (most l : ℕ) (hi : l ≤ most) (block : List ℤ) (room : length block ≡ 2 ^ l * 2 ^ l) where
-  abbrev part : List ℕ
-  part = take (length block) (replicate (2 ^ most * 2 ^ most) 0)
-
-  pub fits : length block ≤ 2 ^ most * 2 ^ most
-  fits = omega (arith, area-range most l hi)
-
-  pub part-length : length part ≡ length block
-  part-length = lent (2 ^ most * 2 ^ most) (length block) fits
-
-  pub rooms : Lent block part part part
-  rooms =
-      record {
-        scan-room = part-length;
-        kept-room = part-length;
-        levels-room = part-length;
-        cleared = cleared (2 ^ most * 2 ^ most) (length block);
       }
 
 -- ---- a block that refusals 6 to 9 leave

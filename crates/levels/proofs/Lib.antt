@@ -1,4 +1,1 @@
-pub mod Samples
-pub mod Signing
-pub mod Keeping
 pub mod Coding

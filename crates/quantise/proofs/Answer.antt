@@ -15,10 +15,10 @@ use Rattle.integers.specs.Sum.{at, Addition, over, onℕ, onMax, onOr}
 use Rattle.integers.specs.Tests.{some, eqℤ}
 use Rattle.integers.proofs.Sums.{Lawful, nats}
 use Rattle.integers.proofs.Over.{tests, maxima, some-over, over-map}
-use Rattle.tables.specs.Scan.{scan, scanAt}
+use Rattle.scan.specs.Scan.{scan, scanAt}
 use Rattle.tables.specs.Scales.{forward, scaleOf, errorScale}
-use Rattle.tables.proofs.OneToOne.{scan-length}
-use Rattle.tables.proofs.Order.{scan-over, scan-hit}
+use Rattle.scan.proofs.OneToOne.{scan-length}
+use Rattle.scan.proofs.Order.{scan-over, scan-hit}
 use Rattle.refusals.specs.Numbers.{numberOf, componentOf}
 use Rattle.refusals.specs.Sides.{mostLog2}
 use Rattle.refusals.specs.Faults.{Fault, refused, outside}
@@ -46,7 +46,8 @@ use Rattle.weights.specs.Inner.Prices.{ruleBy}
 use Rattle.contexts.specs.Inner.Reading.{pricesOf}
 use Rattle.quantise.specs.Inner.Early.{EarlyPassed}
 use Rattle.coefficients.specs.Inner.Coefficients.{zeroDistortion}
-use Rattle.levels.specs.Inner.Levels.{placesBy, inOrder, CodedAs}
+use Rattle.signs.specs.Inner.Signs.{inOrder}
+use Rattle.levels.specs.Inner.Levels.{placesBy, CodedAs}
 use Rattle.contexts.proofs.Pricing.{rate-weighed}
 use Rattle.coefficients.proofs.Reaching.{largest-is}
 use Rattle.coding.proofs.Laid.{signs-at, signs-length, laid-length, laid-on-scan}

@@ -8,7 +8,7 @@ use Prim.Native.Nat.{ℕ, _+_, _-_, _*_, _^_, _≤_, _<_}
 use native.Mathlib.Omega.{arith}
 use lib.ListN.{length}
 use borrow.Author.Tests.{lt-ltb, le-ltb}
-use Rattle.tables.specs.Scan.{scanAt}
+use Rattle.scan.specs.Scan.{scanAt}
 use Rattle.price.specs.Rule.{Rule}
 use Rattle.price.specs.Price.{uncoded, price}
 use Rattle.price.specs.Cheapest.{cheapest}
@@ -22,8 +22,8 @@ use Rattle.weights.specs.Inner.Prices.{ruleBy}
 use Rattle.weights.specs.Inner.Places.{keptPlaces, Standing}
 use Rattle.weights.specs.Inner.Choosing.{Choosable, ChosenBy}
 use Rattle.ahead.specs.declared.Ahead.{Ahead}
-use Rattle.search.specs.Inner.Searching.{Holds, Known}
-use Rattle.search.proofs.Reading.{empty-at}
+use Rattle.passes.specs.Inner.Passes.{Holds, Known}
+use Rattle.passes.proofs.Reading.{empty-at}
 
 -- ---- two prices: x is the least one of a coded block but for its flag c, e that of the empty one, d what both have
 -- besides

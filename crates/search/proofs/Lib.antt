@@ -1,5 +1,1 @@
-pub mod Holding
-pub mod Choosing
-pub mod Looking
-pub mod Reading
 pub mod Finding

@@ -1,9 +1,8 @@
-// The search for the cheapest block of all, in two passes: back along the scan with the least price of what is still to
-// come, after a 0 and after a nonzero level; then forth, reading off what was chosen. Its block and its price are the
-// definition's (specs/Cheapest.antt of `price`).
-use crate::passes::last_place;
-use crate::passes::look_back;
-use crate::passes::read_off;
+// The search for the cheapest block of all: the two passes of `passes`, and between them the choice of a coded block or
+// the empty one. Its block and its price are the definition's (specs/Cheapest.antt of `price`).
+use passes::last_place;
+use passes::look_back;
+use passes::read_off;
 use scaling::scale::Scale;
 use weights::prices::Prices;
 ghost use mathlib.Core.Path.{_≡_};
@@ -11,8 +10,6 @@ ghost use Prim.Native.Nat.{_*_};
 ghost use lib.ListN.{length};
 ghost use Rattle.price.specs.Cheapest.{cheapest};
 ghost use Rattle.weights.specs.Inner.Choosing.{Choosable, ChosenBy};
-
-mod passes;
 
 // The cheapest block of what is kept, found in three rooms that have the block's length, and its price where the
 // block's D is d.

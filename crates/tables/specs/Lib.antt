@@ -1,4 +1,3 @@
 pub mod Matrix
-pub mod Scan
 pub mod Scales
 pub mod Inner

@@ -12,8 +12,8 @@ use lib.ListN.{length, getD, set, length-set}
 use lib.Seq.{getD-set-same, getD-set-other}
 use borrow.Author.Tests.{ltb-true, ltb-false, eqb-true, eqb-false, lt-ltb, le-ltb, le-leb, lt-leb}
 use Rattle.integers.proofs.Order.{below-or-not}
-use Rattle.tables.specs.Scan.{scanAt}
-use Rattle.tables.proofs.OneToOne.{scan-inside, scan-apart}
+use Rattle.scan.specs.Scan.{scanAt}
+use Rattle.scan.proofs.OneToOne.{scan-inside, scan-apart}
 use Rattle.price.specs.Price.{uncoded, price}
 use Rattle.price.specs.Walk.{walked, cutAt, cutOf, written}
 use Rattle.price.specs.Inner.OnePass.{Totals, startWith, walk}

@@ -3,9 +3,9 @@
 use along::walk_places;
 use scaling::scale::Scale;
 use step::Walk;
-use tables::scan::block_place;
-use tables::scan::put_magnitude;
-use tables::scan::scan_place;
+use scan::block_place;
+use scan::put_magnitude;
+use scan::scan_place;
 use weights::prices::Prices;
 ghost use mathlib.Core.Path.{_≡_};
 ghost use Prim.Native.Nat.{_≤_, _*_};

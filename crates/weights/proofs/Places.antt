@@ -13,9 +13,9 @@ use Rattle.integers.specs.Sum.{over, onℕ}
 use Rattle.integers.proofs.Sums.{nats}
 use Rattle.integers.proofs.Lists.{map-at}
 use Rattle.integers.proofs.Order.{below-or-not}
-use Rattle.tables.specs.Scan.{scan, scanAt}
-use Rattle.tables.proofs.OneToOne.{scan-inside, scan-apart}
-use Rattle.tables.proofs.Order.{scan-hit, scan-over}
+use Rattle.scan.specs.Scan.{scan, scanAt}
+use Rattle.scan.proofs.OneToOne.{scan-inside, scan-apart}
+use Rattle.scan.proofs.Order.{scan-hit, scan-over}
 use Rattle.price.specs.Level.{nearest}
 use Rattle.price.specs.Price.{nonzeros}
 use Rattle.price.proofs.Level.{distortion-of-0}

@@ -6,7 +6,7 @@ use Prim.Native.Nat.{ℕ, _*_, _-_, _<_}
 use native.Mathlib.Omega.{arith}
 use lib.ListN.{length, getD, set}
 use borrow.Author.Needs.{needs}
-use Rattle.tables.specs.Scan.{scanAt}
+use Rattle.scan.specs.Scan.{scanAt}
 use Rattle.price.specs.Inner.OnePass.{step}
 use Rattle.weights.specs.Inner.Prices.{ruleBy}
 use Rattle.weights.specs.Inner.Places.{Scanned}

@@ -14,25 +14,25 @@ use Rattle.levels.proofs.code_in.Tie as tie
 
 -- the call's inputs, and the calls that came before a later one
 abbrev called : tie.After-fill-scan-arg → tie.Start
-called c = c .before .before .before .before
+called c = let rooms = c .before in rooms .before .before .before
 
 abbrev start : tie.After-fill-scan → tie.Start
 start c = called (c .before)
 
 abbrev filled : tie.After-keep-arg2 → tie.After-fill-scan
-filled c = c .before .before .before .before
+filled c = let held = c .before .before in held .before .before
 
 abbrev filling : tie.After-keep → tie.After-fill-scan
 filling c = filled (c .before)
 
 abbrev kept : tie.After-choose-arg3 → tie.After-keep
-kept c = c .before .before .before .before .before
+kept c = let asked = c .before .before in asked .before .before .before
 
 abbrev keeping : tie.After-choose → tie.After-keep
 keeping c = kept (c .before)
 
 abbrev chosen : tie.After-put-signs-arg2 → tie.After-choose
-chosen c = c .before .before .before .before
+chosen c = let held = c .before .before in held .before .before
 
 -- the side, as the shift makes it
 abbrev sideBy : tie.Start → ℕ

@@ -1,14 +1,12 @@
--- What the functions of the quantiser say to one another: what is kept of a block's coefficients, by rows, and the
+-- What the functions of the quantiser say to one another: the rooms that are lent, what is asked of a block, and the
 -- block that is written.
 use mathlib.Core.Path.{_≡_}
-use mathlib.Core.Bool.{cond}
 use mathlib.Core.List.{List, map}
-use Prim.Native.Nat.{ℕ, _*_, _^_, _≤_, _<_}
-use lib.Dec.{leb}
-use lib.ListN.{length, getD}
-use lib.IntN.{ℤ, natAbs}
+use Prim.Native.Nat.{ℕ, _*_, _^_, _≤_}
+use lib.ListN.{length}
+use lib.IntN.{ℤ}
 use Rattle.integers.specs.Sum.{at}
-use Rattle.tables.specs.Scan.{scan}
+use Rattle.scan.specs.Scan.{scan}
 use Rattle.price.specs.Level.{scaled}
 use Rattle.price.specs.Price.{uncoded, nonzeros, price}
 use Rattle.scaling.specs.declared.scale.Scale.{Scale}
@@ -17,22 +15,11 @@ use Rattle.scaling.specs.Inner.Scale.{Sound}
 use Rattle.weights.specs.Inner.Prices.{Modest, Fine, ruleBy}
 use Rattle.weights.specs.Inner.Places.{Cleared}
 use Rattle.coefficients.specs.Inner.Coefficients.{Within}
+use Rattle.signs.specs.Inner.Signs.{inOrder}
 use Rattle.coding.specs.declared.Coded.{Coded}
 use Rattle.coding.specs.declared.Mode.{Mode}
 use Rattle.coding.specs.Block.{writtenIn, signs, laid}
 
--- ---- what is kept
--- |c| where its m is above 0, else 0
-abbrev pub keptOf : Scale → ℤ → ℕ
-keptOf g z = cond (leb (g .least) (natAbs z)) (natAbs z) 0
-
--- what is kept of a block, by rows, and how many of them are not 0
-pub record KeptAs (g : Scale) (block : List ℤ) (kept : List ℕ) (r : ℕ) : Type 0 where
-  pub room : length kept ≡ length block
-  pub each : (k : ℕ) → k < length block → getD kept k 0 ≡ keptOf g (at block k)
-  pub count : r ≡ nonzeros kept
-
--- ---- the block written
 -- rooms that have the block's length, and no level yet
 pub record Lent (block : List ℤ) (scan kept levels : List ℕ) : Type 0 where
   pub scan-room : length scan ≡ length block
@@ -40,10 +27,7 @@ pub record Lent (block : List ℤ) (scan kept levels : List ℕ) : Type 0 where
   pub levels-room : length levels ≡ length block
   pub cleared : Cleared levels
 
--- the coefficients in scan order, and their L
-abbrev pub inOrder : (w h : ℕ) → List ℤ → List ℤ
-inOrder w h block = map (λ p. at block p) (scan w h)
-
+-- the coefficients' L in scan order
 abbrev pub placesBy : Scale → (w h : ℕ) → List ℤ → List ℕ
 placesBy g w h block = map (λ z. scaled (g .q) z) (inOrder w h block)
 

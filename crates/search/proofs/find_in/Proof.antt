@@ -8,15 +8,31 @@ use Rattle.search.proofs.Finding.{level-small, found-coded, found-empty
 use Rattle.search.proofs.find_in.Statement.{statement}
 use Rattle.search.proofs.find_in.Tie as tie
 
--- where the way back is done, and the call's start
+-- the three rooms as the way back has left them, and where it is done
+abbrev ons : tie.After-struct-known2 → tie.After-goes-on
+ons c = c .before .before .before
+
+abbrev levelled : tie.After-goes-on → tie.After-after-level
+levelled c = c .before .before
+
+abbrev zeroed : tie.After-after-level → tie.After-after-zero
+zeroed c = c .before .before
+
 abbrev back : tie.After-struct-known2 → tie.After-look-back
-back c = c .before .before .before .before .before .before .before .before
+back c = zeroed (levelled (ons c)) .before
+
+-- where the last place is known, and the call's start
+abbrev asked : tie.After-look-back-arg3 → tie.After-last-place
+asked c = c .before .before .before
 
 abbrev ended : tie.After-look-back → tie.After-last-place
-ended c = c .before .before .before .before
+ended c = asked (c .before)
 
 abbrev called : tie.After-last-place → tie.Start
-called c = c .before .before .before .before .before .before .before
+called c =
+    let rooms = c .before .before .before in
+    let levels = rooms .before .before in
+    levels .before .before
 
 abbrev start : tie.After-look-back → tie.Start
 start c = called (ended c)
@@ -29,12 +45,12 @@ last-place-requires c κs = search needs
 
 look-back-requires : tie.Need-look-back-requires
 look-back-requires c κs =
-    let ended = c .before .before .before in
-    let s = called ended in
+    let end = asked c in
+    let s = called end in
     let f = s .pre .0 in (
       f .scan,
       record { weighable = f .weighable; small = omega (arith, f .left, f .small) },
-      ended .last-place .ensures,
+      end .last-place .ensures,
       s .pre .1,
       s .pre .2,
       s .pre .3,
@@ -56,12 +72,16 @@ add-empty c =
     let f = start (back (c .before .before)) .pre .0 in
     record { fits = omega (arith, f .small, f .weighable .modest .empty) }
 
+-- where a coded block is the cheaper one
+abbrev coded : tie.After-read-off-arg4 → tie.Then1
+coded c = let first = c .before .before .before in first .before
+
 read-off-requires : tie.Need-read-off-requires
 read-off-requires c κs =
-    let k = c .before .before .before .before .before .before .before in
-    let on = k .before .before .before in
-    let level = on .before .before in
-    let zero = level .before .before in
+    let k = coded c .before .before .before in
+    let on = ons k in
+    let level = levelled on in
+    let zero = zeroed level in
     let s = start (back k) in
     let f = s .pre .0 in (
       f .scan,
@@ -88,7 +108,7 @@ same-length-4 c = search needs
 
 returns : tie.Need-returns
 returns c =
-    let taken = c .before .before .before .before .before .before .before in
+    let taken = coded (c .before .before .before) in
     let b = back (taken .before .before .before) in
     let s = start b in
     let f = s .pre .0 in

@@ -11,7 +11,7 @@ use Rattle.search.proofs.find_levels.Tie as tie
 
 -- the call's inputs
 abbrev start : tie.After-find-in-arg → tie.Start
-start c = c .before .before .before .before
+start c = let scan = c .before in scan .before .before .before
 
 -- the block fits, and the part of a room that is lent has its length
 room : (s : tie.Start) → length (s .args .kept .now) ≤ 1024

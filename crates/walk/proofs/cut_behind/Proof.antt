@@ -5,7 +5,7 @@ use Prim.Native.Nat.{ℕ, _-_, _≤_, max}
 use native.Mathlib.Omega.{arith}
 use lib.ListN.{length, set}
 use borrow.Author.Needs.{needs}
-use Rattle.tables.specs.Scan.{scanAt}
+use Rattle.scan.specs.Scan.{scanAt}
 use Rattle.walk.specs.Inner.Cutting.{CutBehind}
 use Rattle.walk.proofs.Cutting.{cut-none, cut-more, cut-done}
 use Rattle.walk.proofs.cut_behind.Statement.{statement}

@@ -5,7 +5,7 @@ use mathlib.Core.List.{List}
 use Prim.Native.Nat.{ℕ, _+_, _*_, _≤_, _<_, max}
 use lib.Dec.{leb, ltb}
 use lib.ListN.{length, getD}
-use Rattle.tables.specs.Scan.{scanAt}
+use Rattle.scan.specs.Scan.{scanAt}
 use Rattle.weights.specs.declared.prices.Prices.{Prices}
 use Rattle.step.specs.declared.Walk.{Walk}
 

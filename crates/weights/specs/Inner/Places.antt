@@ -4,7 +4,7 @@ use mathlib.Core.Path.{_≡_}
 use mathlib.Core.List.{List, map}
 use Prim.Native.Nat.{ℕ, _*_, _≤_, _<_}
 use lib.ListN.{length, getD, drop}
-use Rattle.tables.specs.Scan.{mostPlaces, scan, scanAt}
+use Rattle.scan.specs.Scan.{mostPlaces, scan, scanAt}
 use Rattle.price.specs.Level.{nearest}
 use Rattle.price.specs.Price.{nonzeros}
 use Rattle.scaling.specs.declared.scale.Scale.{Scale}

@@ -1,0 +1,4 @@
+pub mod Holding
+pub mod Choosing
+pub mod Looking
+pub mod Reading
