@@ -17,7 +17,10 @@ x86_clang() { "$tools/clang" --target=$triple -march=x86-64 --no-default-config 
 # x86_headers FOLDER: what host/ uses of C's headers, which the kit has none of
 x86_headers() {
     mkdir -p "$1"
-    echo 'typedef __SIZE_TYPE__ size_t;' >"$1/stddef.h"
+    cat >"$1/stddef.h" <<'C'
+typedef __SIZE_TYPE__ size_t;
+#define offsetof(type, member) __builtin_offsetof(type, member)
+C
     for bits in 16 32 64; do
         echo "typedef __INT${bits}_TYPE__ int${bits}_t; typedef __UINT${bits}_TYPE__ uint${bits}_t;"
     done >"$1/stdint.h"
@@ -31,6 +34,7 @@ C
 void *malloc(size_t);
 void free(void *);
 C
+    echo 'int printf(const char *restrict, ...);' >"$1/stdio.h"
     cat >"$1/unistd.h" <<'C'
 #include <stddef.h>
 long read(int, void *, size_t);

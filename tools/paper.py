@@ -62,8 +62,8 @@ class Words:
     def u32(self):
         return self.whole(0, 2 ** 32 - 1)
 
-    def flag(self):
-        return self.u32() != 0
+    def flags(self):
+        return self.u32()
 
     def f64(self):
         w = self.word()
@@ -493,8 +493,17 @@ class Paper:
         return 0, 0, residuals
 
     # ---- the line protocol
-    # verbs, and whether they are of the second mode
-    QUANTISE, SUBBLOCK = {b"quantise": False, b"quantise-least": True}, {b"subblock": False, b"subblock-least": True}
+    # the bits of FLAGS
+    SLICE, CODED, LEAST = 0, 1, 2
+
+    def intra_slice(self, flags):
+        return flags >> self.SLICE & 1 == 1
+
+    def intra_coded(self, flags):
+        return flags >> self.CODED & 1 == 1
+
+    def second_mode(self, flags, verb):
+        return flags >> self.LEAST & 1 == 1
 
     def lines(self, data):
         """A last line may lack its newline."""
@@ -517,18 +526,18 @@ class Paper:
         if verb == b"transform":
             lw, lh = words.log2(), words.log2()
             return b"accepted :", self.transform(words.samples(), lw, lh)
-        if verb in self.QUANTISE:
-            component, log2, qp, d = words.component(), words.log2(), words.u32(), words.f64()
-            slice_, coded, costs = words.flag(), words.flag(), words.costs()
-            count, price, after = self.quantise(words.samples(), log2, component, qp, d, slice_, coded, costs,
-                                                self.QUANTISE[verb])
+        if verb == b"quantise":
+            component, log2, qp, d, flags, costs = (words.component(), words.log2(), words.u32(), words.f64(),
+                                                    words.flags(), words.costs())
+            count, price, after = self.quantise(words.samples(), log2, component, qp, d, self.intra_slice(flags),
+                                                self.intra_coded(flags), costs, self.second_mode(flags, verb))
             return b"accepted %d %d :" % (count, price), after
-        if verb in self.SUBBLOCK:
+        if verb == b"subblock":
             log2, run = words.log2(), words.u32()
             qp, d = zip(*[(words.u32(), words.f64()) for k in (Y, U, V)])
-            slice_, coded, costs = words.flag(), words.flag(), words.costs()
-            answers, after = self.sub_block(words.samples(), log2, run, qp, d, slice_, coded, costs,
-                                            self.SUBBLOCK[verb])
+            flags, costs = words.flags(), words.costs()
+            answers, after = self.sub_block(words.samples(), log2, run, qp, d, self.intra_slice(flags),
+                                            self.intra_coded(flags), costs, self.second_mode(flags, verb))
             return b"accepted %s :" % b" ".join(b"%d %d" % a for a in answers), after
         raise Malformed
 

@@ -10,6 +10,7 @@ import copy, fractions, functools, itertools, math, multiprocessing, os, struct,
 from paper import Block, Costs, Malformed, Paper, Refused, U, V, Words, Y
 import vectors
 from vectors import by_hand
+from vectors.lines import CODED, FLAGS_AT, LEAST, SLICE, is_least
 
 HERE = os.path.dirname(os.path.dirname(os.path.abspath(__file__)))
 PORTS, EQUAL = [], []
@@ -493,6 +494,42 @@ def sub_block_without_surplus(paper, buffer, luma, run, *settings):
     return answers, after[:paper.needed(luma, run)]
 
 
+def two_words(words):
+    """FLAGS as two numbers, the second of which says whether the block is intra-coded."""
+    return SLICE * (words.u32() != 0) | CODED * (words.u32() != 0)
+
+
+def or_else(flags):
+    """A line that is malformed read once more, with FLAGS read in this way."""
+    other = type("Other", (Paper,), {"Words": type("Words", (Words,), {"flags": flags})})()
+
+    def answer(paper, line):
+        said = Paper.answer(paper, line)
+        return other.answer(line) if said == b"malformed" else said
+    return answer
+
+
+def flags_through(change):
+    """FLAGS changed before its bits are read."""
+    return {
+        "intra_slice": lambda s, flags: Paper.intra_slice(s, change(flags)),
+        "intra_coded": lambda s, flags: Paper.intra_coded(s, change(flags)),
+        "second_mode": lambda s, flags, verb: Paper.second_mode(s, change(flags), verb),
+    }
+
+
+def read_as(word, verb, bits=0):
+    """A word read as a verb, and with it these bits of FLAGS as raised."""
+    def answered(paper, words):
+        if words.words and words.words[0] == word:
+            words.words[0] = verb
+            flags = words.words[FLAGS_AT[verb]:FLAGS_AT[verb] + 1] if bits else []
+            if flags and flags[0].isdigit():
+                words.words[FLAGS_AT[verb]] = b"%d" % (int(flags[0]) | bits)
+        return Paper.answered(paper, words)
+    return answered
+
+
 reader("-0 read", WHOLE=rb"-?(0|[1-9][0-9]*)")
 reader("a leading zero read", WHOLE=rb"-?[0-9]+")
 reader("+1 read", WHOLE=rb"0|[-+]?[1-9][0-9]*")
@@ -519,14 +556,63 @@ reader("log2 sides cut to 32 bits", log2=lambda s: Words.log2(s) % 2 ** 32)
 reader("log2 sides cut to 64 bits", log2=cut_to(64))
 reader("costs cut to 32 bits", costs=lambda s: Costs([e % 2 ** 32 for e in Words.costs(s).entries]))
 reader("costs of 63 bits alone read", costs=lambda s: Costs([s.whole(0, 2 ** 63 - 1) for _ in range(28)]))
-reader("QP cut to 8 bits", u32=lambda s: Words.u32(s) % 256 if s.at in (3, 5, 7, 9) else Words.u32(s))
+reader("QP cut to 8 bits", u32=lambda s: Words.u32(s) % 256 if s.at in (3, 5, 7) else Words.u32(s))
 reader("COMPONENT 3 read as V", component=lambda s: min(V, s.whole(0, 3)))
 reader("COMPONENT above 2 cut to 8 bits", component=lambda s: s.whole(0, 2 ** 64) % 256 % 3)
-reader("a flag is yes when it is 1", flag=lambda s: s.u32() == 1)
-reader("a flag is yes when it is odd", flag=lambda s: s.u32() % 2 == 1)
-reader("a flag above 1 not read", flag=lambda s: s.whole(0, 1) == 1)
-reader("a line of 58,083 bytes not read", LONGEST_LINE=58082)
-reader("a line of 58,089 bytes not read", LONGEST_LINE=58088)
+reader("a line of 58,072 bytes not read", LONGEST_LINE=58071)
+reader("FLAGS of 64 bits read", flags=lambda s: s.whole(0, 2 ** 64 - 1))
+reader("FLAGS cut to 32 bits", flags=cut_to(32))
+reader("FLAGS below 0 read", flags=lambda s: s.whole(-2 ** 31, 2 ** 32 - 1))
+reader("FLAGS above 2^31 - 1 not read", flags=lambda s: s.whole(0, 2 ** 31 - 1))
+reader("FLAGS above 7 not read", flags=lambda s: s.whole(0, 7))
+reader("FLAGS above 3 not read", flags=lambda s: s.whole(0, 3))
+reader("FLAGS read as two words", flags=two_words)
+port("FLAGS read as two words where one doesn't do", answer=or_else(two_words))
+port("FLAGS taken as 3 where it is not there", answer=or_else(lambda words: SLICE | CODED))
+port("bits 0 and 1 of FLAGS exchanged", SLICE=1, CODED=0)
+port("bits 0 and 2 of FLAGS exchanged", SLICE=2, LEAST=0)
+port("bits 1 and 2 of FLAGS exchanged", CODED=2, LEAST=1)
+port("the bits of FLAGS from 1 on", SLICE=1, CODED=2, LEAST=3)
+port("the bits of FLAGS from the highest down", SLICE=31, CODED=30, LEAST=29)
+port("bit 0 of FLAGS not read", intra_slice=lambda s, flags: False)
+port("bit 0 of FLAGS taken as raised", intra_slice=lambda s, flags: True)
+port("bit 1 of FLAGS not read", intra_coded=lambda s, flags: False)
+port("bit 1 of FLAGS taken as raised", intra_coded=lambda s, flags: True)
+port("bit 2 of FLAGS taken as raised by quantise", second_mode=lambda s, flags, verb: verb == b"quantise" or (
+    Paper.second_mode(s, flags, verb)))
+port("bit 2 of FLAGS taken as raised by subblock", second_mode=lambda s, flags, verb: verb == b"subblock" or (
+    Paper.second_mode(s, flags, verb)))
+for bit in (3, 8, 16, 31):
+    port("bit %d of FLAGS for bit 0 too" % bit, intra_slice=lambda s, flags, bit=bit: Paper.intra_slice(
+        s, flags | flags >> bit))
+    port("bit %d of FLAGS for bit 1 too" % bit, intra_coded=lambda s, flags, bit=bit: Paper.intra_coded(
+        s, flags | flags >> bit << 1))
+    port("bit %d of FLAGS for bit 2 too" % bit, second_mode=lambda s, flags, verb, bit=bit: Paper.second_mode(
+        s, flags | flags >> bit << 2, verb))
+    port("bit %d of FLAGS for bit 2" % bit, LEAST=bit)
+port("intra slice when FLAGS isn't 0", intra_slice=lambda s, flags: flags != 0)
+port("intra slice when FLAGS is 1", intra_slice=lambda s, flags: flags == 1)
+port("intra-coded when FLAGS is 2", intra_coded=lambda s, flags: flags == 2)
+port("intra-coded when FLAGS is 2 or more", intra_coded=lambda s, flags: flags >= 2)
+port("the second mode when FLAGS is 4", second_mode=lambda s, flags, verb: flags == 4)
+port("the second mode when FLAGS is 4 or more", second_mode=lambda s, flags, verb: flags >= 4)
+port("the second mode when FLAGS is 7", second_mode=lambda s, flags, verb: flags == 7)
+port("the second mode of intra-coded blocks alone", second_mode=lambda s, flags, verb: flags & 6 == 6)
+port("the second mode in intra slices alone", second_mode=lambda s, flags, verb: flags & 5 == 5)
+port("in the second mode always intra slice", intra_slice=lambda s, flags: flags & 5 != 0)
+port("in the second mode always intra-coded", intra_coded=lambda s, flags: flags & 6 != 0)
+port("FLAGS above 7 taken as 0", **flags_through(lambda flags: flags if flags < 8 else 0))
+port("FLAGS above 7 taken as 7", **flags_through(lambda flags: min(flags, 7)))
+port("the bits of FLAGS turned into their opposites", **flags_through(lambda flags: ~flags))
+port("quantise-least read as quantise", answered=read_as(b"quantise-least", b"quantise"))
+port("subblock-least read as subblock", answered=read_as(b"subblock-least", b"subblock"))
+port("quantise-least read as the second mode", answered=read_as(b"quantise-least", b"quantise", LEAST))
+port("subblock-least read as the second mode", answered=read_as(b"subblock-least", b"subblock", LEAST))
+port("transform-least read", answered=read_as(b"transform-least", b"transform"))
+port("quantise-l read too", answered=read_as(b"quantise-l", b"quantise", LEAST))
+port("quantise-most read too", answered=read_as(b"quantise-most", b"quantise", LEAST))
+reader("verbs read by their first eight letters", split=lambda s, line: [
+    w[:8] if i == 0 and w[:8] in FLAGS_AT else w for i, w in enumerate(line.split(b" "))])
 port("the rest of a long line read as a line", lines=lambda s, data: [
     line[i:i + 65535] for line in Paper.lines(s, data) for i in range(0, max(1, len(line)), 65535)])
 port("an empty line passed over", lines=lambda s, data: [line for line in Paper.lines(s, data) if line])
@@ -539,7 +625,7 @@ port("the surplus not printed by three components", sub_block=sub_block_without_
 # ---- the second mode: these differ from the paper there alone, and are asked its requests alone
 def second(name, **rules):
     PORTS.append(type("second mode: " + name, (Paper,),
-                      {**rules, "asked": staticmethod(lambda line: b"-least" in line[:16])}))
+                      {**rules, "asked": staticmethod(is_least)}))
 
 
 def searched(**rules):
@@ -646,16 +732,13 @@ def not_behind(paper, block):
     return Paper.ahead(paper, front) + [paper.behind_the_last()] * (len(block.rounded) - len(front.rounded))
 
 
-def read_as(**verbs):
-    """Words that are read as verbs of the line protocol, and whether they are of the second mode."""
-    named = lambda words: {word.replace("_", "-").encode(): mode for word, mode in words.items()}
-    return {table: named(words) for table, words in verbs.items()}
-
-
-def any_verb_with_least(paper, words):
-    if words.words and words.words[0] == b"transform-least":
-        words.words[0] = b"transform"
-    return Paper.answered(paper, words)
+def not_for(of):
+    """The second mode of a verb is not read."""
+    def second_mode(paper, flags, verb):
+        if verb == of and Paper.second_mode(paper, flags, verb):
+            raise Malformed
+        return Paper.second_mode(paper, flags, verb)
+    return second_mode
 
 
 second("0 after m at equal price", in_order=nonzero_first)
@@ -732,15 +815,9 @@ second("what is not run is cleared", **by_a_call("sub_block",
                                                  not_run=lambda s, residuals: (0, 0, [0] * len(residuals))))
 second("the surplus not printed by the quantiser", **in_it("quantise", quantise_without_surplus))
 second("the surplus not printed by three components", **in_it("sub_block", sub_block_without_surplus))
-second("quantise-least read as quantise", **read_as(QUANTISE={"quantise": False, "quantise_least": False}))
-second("subblock-least read as subblock", **read_as(SUBBLOCK={"subblock": False, "subblock_least": False}))
-second("quantise-least not read", **read_as(QUANTISE={"quantise": False}))
-second("subblock-least not read", **read_as(SUBBLOCK={"subblock": False}))
-second("transform-least read", answered=any_verb_with_least)
-port("quantise read as quantise-least", **read_as(QUANTISE={"quantise": True, "quantise_least": True}))
-port("subblock read as subblock-least", **read_as(SUBBLOCK={"subblock": True, "subblock_least": True}))
-port("quantise-l read too", **read_as(QUANTISE={"quantise": False, "quantise_least": True, "quantise_l": True}))
-port("quantise-most read too", **read_as(QUANTISE={"quantise": False, "quantise_least": True, "quantise_most": True}))
+for verb in FLAGS_AT:
+    second("bit 2 of FLAGS not read by %s" % verb.decode(), second_mode=lambda s, flags, verb, of=verb: verb != of)
+    second("malformed for %s" % verb.decode(), second_mode=not_for(verb))
 
 # ---- ports that can't differ: what is said of them is checked as far as the stored requests go
 equal("7, 8 and 9 asked of a skipped block too", "there m is at most 1, lambda × 2 at most 2^29, D below 2^57",
@@ -755,7 +832,7 @@ equal("m-1 tried where m is 1", "it is 0 once more", allowed=lambda s, m: [0, m]
 equal("second mode: m-1 allowed where m is 1", "it is 0 once more",
       in_order=lambda s, m: [0] + [m - 1] * (m > 0) + [m] * (m > 0))
 equal("second mode: not searched behind the last m above 0", "no nonzero level can come there", ahead=not_behind)
-equal("a line of more than 65,535 bytes read", "the longest request that can be read has 58,089",
+equal("a line of more than 65,535 bytes read", "the longest request that can be read has 58,072",
       Words=type("Words", (Words,), {"LONGEST_LINE": 10 ** 9}))
 equal("lambda × (M+1) of 2^41 + 3 taken", "the nearest product past 2^41 is 2^41 + 4", PRICE=(1 << 41) + 3)
 

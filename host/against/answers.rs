@@ -27,8 +27,11 @@ impl Words<'_> {
         f64::from_bits(u64::from_str_radix(self.0.next().expect("LAMBDA"), 16).expect("hex digits"))
     }
 
-    fn flag(&mut self) -> bool {
-        self.number::<u32>() != 0
+    /// Of FLAGS whether the slice is an I slice, and whether the block is intra coded. The second mode is not asked.
+    fn flags(&mut self) -> (bool, bool) {
+        let flags: u32 = self.number();
+        assert!(flags & 4 == 0, "a request of the first mode");
+        (flags & 1 != 0, flags & 2 != 0)
     }
 
     fn costs(&mut self) -> Vec<i32> {
@@ -58,7 +61,7 @@ fn transform(words: &mut Words) -> String {
 fn quantise(words: &mut Words) -> String {
     let (component, log2): (usize, usize) = (words.number(), words.number());
     let (qp, lambda): (u8, f64) = (words.number(), words.lambda());
-    let (intra_slice, intra_coded, costs) = (words.flag(), words.flag(), words.costs());
+    let ((intra_slice, intra_coded), costs) = (words.flags(), words.costs());
     let mut block = words.samples();
     block.truncate(1 << (2 * log2));
     let count = oracle::quant(qp, lambda, intra_coded, intra_slice, &mut block, log2, log2, component, &costs);
@@ -96,7 +99,7 @@ impl SubBlock {
 fn sub_block(words: &mut Words) -> String {
     let (log2, run): (usize, u32) = (words.number(), words.number());
     let settings = [0; 3].map(|_| (words.number::<u32>() as u8, words.lambda()));
-    let (intra_slice, intra_coded, costs) = (words.flag(), words.flag(), words.costs());
+    let ((intra_slice, intra_coded), costs) = (words.flags(), words.costs());
     let (n, mut y) = (1 << (2 * log2), words.samples());
     let mut u = y.split_off(n);
     let mut v = u.split_off(n / 4);

@@ -5,7 +5,7 @@
 mod blocks;
 mod recorder;
 use blocks::Random;
-use galemosu::{quantise, quantise_least, transform, Component, Costs, Settings};
+use galemosu::{quantise, transform, Component, Costs, Mode, Quantise, Settings};
 use std::time::Instant;
 
 const ROUNDS: usize = 9;
@@ -43,7 +43,14 @@ fn main() {
     wanted.into_iter().for_each(|table| table());
 }
 
-const COSTS: Costs = Costs { run: recorder::RUN, level: recorder::LEVEL, last: recorder::LAST, cbf: recorder::CBF };
+const COSTS: Costs = Costs::from_entries(recorder::COSTS);
+
+/// Luma of an intra-coded block in an intra slice.
+fn call(log2: usize, lambda: f64, mode: Mode) -> Quantise<'static> {
+    let mut call = Quantise::new(Component::Y, log2, Settings { qp: recorder::QP, lambda }, &COSTS);
+    (call.intra_slice, call.intra_coded, call.mode) = (true, true, mode);
+    call
+}
 
 fn transforms() {
     let mut random = Random::new(7);
@@ -66,19 +73,18 @@ fn transforms() {
 }
 
 fn quantisers() {
-    let flat: Vec<i32> =
-        [&COSTS.run[..], &COSTS.level, &COSTS.last, &COSTS.cbf].concat().iter().map(|x| *x as i32).collect();
-    let settings = Settings { qp: recorder::QP, lambda: recorder::LAMBDA };
+    let flat = recorder::COSTS.map(|entry| entry as i32);
     println!("\n| side | blocks | nonzero levels | Rust ns | Galemosu ns | times as fast |");
     println!("|---|---|---|---|---|---|");
     for (log2, kind, mut blocks) in recorder::blocks() {
         blocks.iter_mut().for_each(|b| transform(b, log2, log2).unwrap());
         let repeat = 200_000 / blocks[0].len() + 20;
-        let ours = |b: &mut [i16]| quantise(b, log2, Component::Y, settings, true, true, &COSTS).unwrap();
+        let call = call(log2, recorder::LAMBDA, Mode::Walk);
+        let ours = |b: &mut [i16]| quantise(b, &call).unwrap();
         let levels: u32 = blocks.iter().map(|b| ours(&mut b.clone()).count).sum();
         let copy = best(&blocks, repeat, |_| {});
         let rust = best(&blocks, repeat, |b| {
-            let (qp, lambda) = (settings.qp as u8, settings.lambda);
+            let (qp, lambda) = (recorder::QP as u8, recorder::LAMBDA);
             std::hint::black_box(oracle::quant(qp, lambda, true, true, b, log2, log2, 0, &flat));
         }) - copy;
         let mine = best(&blocks, repeat, |b| {
@@ -95,19 +101,17 @@ fn quantisers() {
 
 /// The second mode beside the walk, on the blocks of the quantiser's table.
 fn modes() {
-    let settings = Settings { qp: recorder::QP, lambda: recorder::LAMBDA };
     println!("\n| side | blocks | nonzero levels | walk ns | least ns | least / walk |");
     println!("|---|---|---|---|---|---|");
     for (log2, kind, mut blocks) in recorder::blocks() {
         blocks.iter_mut().for_each(|b| transform(b, log2, log2).unwrap());
         let repeat = 200_000 / blocks[0].len() + 20;
-        let walk = |b: &mut [i16]| quantise(b, log2, Component::Y, settings, true, true, &COSTS).unwrap();
-        let least = |b: &mut [i16]| quantise_least(b, log2, Component::Y, settings, true, true, &COSTS).unwrap();
-        let levels: u32 = blocks.iter().map(|b| least(&mut b.clone()).count).sum();
+        let [walk, least] = [Mode::Walk, Mode::Least].map(|mode| call(log2, recorder::LAMBDA, mode));
+        let levels: u32 = blocks.iter().map(|b| quantise(&mut b.clone(), &least).unwrap().count).sum();
         let copy = best(&blocks, repeat, |_| {});
-        let [walked, searched] = [&walk as &dyn Fn(&mut [i16]) -> _, &least].map(|call| {
+        let [walked, searched] = [walk, least].map(|call| {
             best(&blocks, repeat, |b| {
-                std::hint::black_box(call(b));
+                std::hint::black_box(quantise(b, &call).unwrap());
             }) - copy
         });
         println!(
@@ -152,12 +156,11 @@ fn savings() {
 /// How many blocks the two modes leave with other levels, and the percentage that the second saves of each block's
 /// price.
 fn saving(log2: usize, lambda: f64, blocks: &[Vec<i16>]) -> (usize, Vec<f64>) {
-    let settings = Settings { qp: recorder::QP, lambda };
     let mut others = 0;
     let saved = |block: &Vec<i16>| {
         let (mut walked, mut searched) = (block.clone(), block.clone());
-        let walk = quantise(&mut walked, log2, Component::Y, settings, true, true, &COSTS).unwrap().price;
-        let least = quantise_least(&mut searched, log2, Component::Y, settings, true, true, &COSTS).unwrap().price;
+        let walk = quantise(&mut walked, &call(log2, lambda, Mode::Walk)).unwrap().price;
+        let least = quantise(&mut searched, &call(log2, lambda, Mode::Least)).unwrap().price;
         others += (walked != searched) as usize;
         // a skipped block has the price 0 in both
         if walk == 0 {

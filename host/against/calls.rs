@@ -4,7 +4,7 @@
 use crate::blocks::Random;
 use crate::limits::to_a_limit;
 use crate::paper::{self, Block};
-use galemosu::{Component, Costs, Settings};
+use galemosu::{Component, Costs, Mode, Settings};
 use std::ops::Range;
 
 pub const COMPONENTS: [Component; 3] = [Component::Y, Component::U, Component::V];
@@ -56,6 +56,13 @@ impl Quantise {
         1 << (2 * self.log2_side)
     }
 
+    /// The call as the library takes it.
+    pub fn asked(&self, mode: Mode) -> galemosu::Quantise<'_> {
+        let mut call = galemosu::Quantise::new(self.component, self.log2_side, self.settings, &self.costs);
+        (call.intra_slice, call.intra_coded, call.mode) = (self.intra_slice, self.intra_coded, mode);
+        call
+    }
+
     pub fn block(&self) -> Block<'_> {
         Block {
             coefficients: &self.buffer[..self.needs()],
@@ -73,6 +80,14 @@ impl Quantise {
 impl SubBlock {
     pub fn needs(&self) -> usize {
         3 << (2 * self.log2_luma - 1)
+    }
+
+    /// The call as the library takes it.
+    pub fn asked(&self, mode: Mode) -> galemosu::SubBlock<'_> {
+        let mut call = galemosu::SubBlock::new(self.log2_luma, self.settings, &self.costs);
+        (call.run, call.intra_slice, call.intra_coded, call.mode) =
+            (self.run, self.intra_slice, self.intra_coded, mode);
+        call
     }
 
     pub fn runs(&self, k: usize) -> bool {
@@ -296,7 +311,6 @@ impl Random {
             let entry = self.below(28) as usize;
             entries[entry] = self.one(&WRONG_COSTS);
         }
-        let [run, level] = [0, 8].map(|at| entries[at..at + 8].try_into().unwrap());
-        Costs { run, level, last: entries[16..20].try_into().unwrap(), cbf: entries[20..].try_into().unwrap() }
+        Costs::from(entries)
     }
 }

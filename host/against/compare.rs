@@ -29,12 +29,12 @@ const COMPARISONS: [Comparison; 3] = [
 const LEAST: Comparison = ("least", least::compare, 120_000);
 
 pub fn fault_of(refused: Refused) -> Fault {
-    (refused.refusal as u32, refused.component as usize)
+    (refused.refusal.number(), refused.component.map_or(0, |component| component as usize))
 }
 
 /// The cost tables as the Rust takes them.
 pub fn costs_of_the_rust(costs: &Costs) -> Vec<i32> {
-    [&costs.run[..], &costs.level, &costs.last, &costs.cbf].concat().into_iter().map(|entry| entry as i32).collect()
+    costs.entries().map(|entry| entry as i32).to_vec()
 }
 
 fn main() {

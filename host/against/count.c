@@ -14,8 +14,8 @@ typedef unsigned long u64;
 typedef __attribute__((vector_size(16), aligned(1), may_alias)) char sixteen;
 
 typedef unsigned transforms(short *block, size_t len, size_t log2_w, size_t log2_h);
-typedef unsigned quantises(short *block, size_t len, size_t log2_side, unsigned qp, double lambda, unsigned intra_slice,
-    unsigned intra_coded, const u64 costs[28], u64 answer[3]);
+typedef unsigned quantises(short *block, size_t len, size_t log2_side, unsigned qp, double lambda, unsigned flags,
+    const u64 costs[28], u64 answer[3]);
 
 transforms galemosu_transform, no_transform;
 quantises galemosu_quantise_y, no_quantise;
@@ -133,7 +133,8 @@ static unsigned quantise_all(size_t log2, int counted)
     for (int i = 0; i < BLOCKS; i++) {
         u64 answer[3] = {0};
         memcpy(room, given[i], n * sizeof *room);
-        refused |= what(room, n, log2, (unsigned)settings.qp, settings.lambda, 1, 1, settings.costs, answer);
+        /* an intra-coded block in an intra slice, by the walk */
+        refused |= what(room, n, log2, (unsigned)settings.qp, settings.lambda, 3, settings.costs, answer);
         add(room, n);
         sum = (sum ^ answer[1]) * 0x100000001b3u;
     }

@@ -10,7 +10,7 @@ use crate::fault_of;
 use crate::order::{self, Fault};
 use crate::paper::{scan, Block};
 use crate::tally::Tally;
-use galemosu::{Coded, Component, Costs, Settings};
+use galemosu::{Coded, Component, Costs, Mode, Settings};
 
 const ALL: &[usize] = &[0, 1, 2];
 
@@ -67,8 +67,8 @@ fn grid(tally: &mut Tally, random: &mut Random) {
     let values = [0, 8, -12, 16, 24, -40];
     for table in 0..6 {
         let costs = match table {
-            0 => equal(0),
-            1 => equal(32768),
+            0 => Costs::equal(0),
+            1 => Costs::equal(32768),
             2 => usual(random),
             _ => even(random),
         };
@@ -129,50 +129,29 @@ fn tied(random: &mut Random, log2_side: usize, component: Component) -> Quantise
     Quantise { buffer, log2_side, component, settings, intra_slice, intra_coded, costs: even(random) }
 }
 
-fn equal(entry: u64) -> Costs {
-    Costs { run: [entry; 8], level: [entry; 8], last: [entry; 4], cbf: [entry; 8] }
-}
-
 /// Small multiples of what the square of a quarter of a step costs in `tied`.
 fn even(random: &mut Random) -> Costs {
     let most = random.one(&[3, 6, 24]);
-    let mut entry = || 8192 * random.below(most);
-    Costs {
-        run: [0; 8].map(|_| entry()),
-        level: [0; 8].map(|_| entry()),
-        last: [0; 4].map(|_| entry()),
-        cbf: [0; 8].map(|_| entry()),
-    }
+    Costs::from([0; 28].map(|_| 8192 * random.below(most)))
 }
 
 fn usual(random: &mut Random) -> Costs {
-    let mut entry = || 4096 + random.below(160_000);
-    Costs {
-        run: [0; 8].map(|_| entry()),
-        level: [0; 8].map(|_| entry()),
-        last: [0; 4].map(|_| entry()),
-        cbf: [0; 8].map(|_| entry()),
-    }
+    Costs::from([0; 28].map(|_| 4096 + random.below(160_000)))
 }
 
 // ---- what must come of them
 
 fn one(tally: &mut Tally, call: &Quantise) {
     let (mut ours, mut walked) = (call.buffer.clone(), call.buffer.clone());
-    let (slice, coded) = (call.intra_slice, call.intra_coded);
-    let answer =
-        galemosu::quantise_least(&mut ours, call.log2_side, call.component, call.settings, slice, coded, &call.costs)
-            .map_err(fault_of);
-    let walk =
-        galemosu::quantise(&mut walked, call.log2_side, call.component, call.settings, slice, coded, &call.costs)
-            .map_err(fault_of);
+    let answer = galemosu::quantise(&mut ours, &call.asked(Mode::Least)).map_err(fault_of);
+    let walk = galemosu::quantise(&mut walked, &call.asked(Mode::Walk)).map_err(fault_of);
     let good = match (order::quantise(call), walk) {
         (Some(fault), Err(same)) => refused(tally, &answer, fault) && same == fault && ours == call.buffer,
         (None, Ok(walk)) => answer.is_ok_and(|coded| {
             tally.both += 1;
             tally.kind("sides", call.log2_side - 1);
             tally.kind("pairs of QP and component", 3 * call.settings.qp as usize + call.component as usize);
-            tally.kind("pairs of flags", 2 * slice as usize + call.intra_coded as usize);
+            tally.kind("pairs of flags", 2 * call.intra_slice as usize + call.intra_coded as usize);
             let n = call.needs();
             cheapest(tally, &call.block(), coded, &ours[..n], walk, &walked[..n]) && ours[n..] == call.buffer[n..]
         }),
@@ -183,12 +162,8 @@ fn one(tally: &mut Tally, call: &Quantise) {
 
 fn three(tally: &mut Tally, call: &SubBlock) {
     let (mut ours, mut walked) = (call.buffer.clone(), call.buffer.clone());
-    let (slice, coded) = (call.intra_slice, call.intra_coded);
-    let answer =
-        galemosu::sub_block_least(&mut ours, call.log2_luma, &call.settings, call.run, slice, coded, &call.costs)
-            .map_err(fault_of);
-    let walk = galemosu::sub_block(&mut walked, call.log2_luma, &call.settings, call.run, slice, coded, &call.costs)
-        .map_err(fault_of);
+    let answer = galemosu::sub_block(&mut ours, &call.asked(Mode::Least)).map_err(fault_of);
+    let walk = galemosu::sub_block(&mut walked, &call.asked(Mode::Walk)).map_err(fault_of);
     let good = match (order::sub_block(call), walk) {
         (Some(fault), Err(same)) => refused(tally, &answer, fault) && same == fault && ours == call.buffer,
         (None, Ok(walk)) => answer.is_ok_and(|coded| {

@@ -1,11 +1,11 @@
 //! Where the Rust leaves the definition, for docs/DIFFERENCES.md. Each input is put to one build of the Rust, with
 //! overflow checks or without, and to the library; a line says what each has made of it.
 
-use galemosu::{quantise, transform, Component, Costs, Settings};
+use galemosu::{quantise, transform, Component, Costs, Quantise, Settings};
 use std::panic::{catch_unwind, AssertUnwindSafe};
 
-const FLAT: Costs = Costs { run: [32768; 8], level: [32768; 8], last: [32768; 4], cbf: [32768; 8] };
-const LARGEST: Costs = Costs { run: [1 << 20; 8], level: [1 << 20; 8], last: [1 << 20; 4], cbf: [1 << 20; 8] };
+const FLAT: Costs = Costs::equal(32768);
+const LARGEST: Costs = Costs::equal(1 << 20);
 
 /// One call: luma of an intra-coded block in an intra slice.
 struct Call {
@@ -30,8 +30,7 @@ fn shown(block: &[i16]) -> String {
 
 /// What the Rust makes of a call: its levels, or a panic and its message.
 fn theirs(call: &Call) -> String {
-    let costs = [&call.costs.run[..], &call.costs.level, &call.costs.last, &call.costs.cbf].concat();
-    let costs: Vec<i32> = costs.into_iter().map(|entry| entry as i32).collect();
+    let costs = call.costs.entries().map(|entry| entry as i32);
     let mut block = call.block.clone();
     let (w, h) = call.log2;
     let run = AssertUnwindSafe(|| oracle::quant(call.qp as u8, call.lambda, true, true, &mut block, w, h, 0, &costs));
@@ -54,9 +53,11 @@ fn theirs(call: &Call) -> String {
 fn ours(call: &Call) -> String {
     let mut block = call.block.clone();
     let settings = Settings { qp: call.qp, lambda: call.lambda };
-    match quantise(&mut block, call.log2.0, Component::Y, settings, true, true, &call.costs) {
+    let mut asked = Quantise::new(Component::Y, call.log2.0, settings, &call.costs);
+    (asked.intra_slice, asked.intra_coded) = (true, true);
+    match quantise(&mut block, &asked) {
         Ok(_) => shown(&block),
-        Err(refused) => format!("refuses with {} {:?}", refused.refusal as u32, refused.refusal),
+        Err(refused) => format!("refuses with {} {:?}", refused.refusal.number(), refused.refusal),
     }
 }
 
@@ -86,8 +87,8 @@ fn first_panic(costs: Costs) -> Option<(i16, u64)> {
 
 fn main() {
     std::panic::set_hook(Box::new(|_| {}));
-    let mut only = Costs { run: [0; 8], level: [0; 8], last: [0; 4], cbf: [0; 8] };
-    only.level[3] = 1 << 20;
+    let mut only = Costs::equal(0);
+    only.level[1][1] = 1 << 20;
     for (name, costs) in [("every entry 1,048,576", LARGEST), ("only level[1][1] 1,048,576", only)] {
         match first_panic(costs) {
             Some((c, m)) => println!("2×2, QP 0, d 0, {name}\n    the Rust: panics first at {c}, whose m is {m}"),

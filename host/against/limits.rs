@@ -68,7 +68,7 @@ fn to_a_tie(random: &mut Random, call: &mut Quantise) {
     let step = (32i128 << j) >> call.log2_side;
     call.settings.qp = 4 + 6 * j as u32;
     call.settings.lambda = (512u64 << (2 * j)) as f64 / 32768.0;
-    call.costs = Costs { run: [32768; 8], level: [32768; 8], last: [32768; 4], cbf: [32768; 8] };
+    call.costs = Costs::equal(32768);
     let often = 1 + random.below(6);
     call.buffer.iter_mut().for_each(|c| *c = if random.below(often) == 0 { random.signed(step) } else { 0 });
 }

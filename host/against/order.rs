@@ -18,7 +18,7 @@ fn bad_lambda(lambda: f64) -> bool {
 }
 
 fn bad_costs(costs: &galemosu::Costs) -> bool {
-    [&costs.run[..], &costs.level, &costs.last, &costs.cbf].concat().into_iter().any(|entry| entry > 1_048_576)
+    costs.entries().into_iter().any(|entry| entry > 1_048_576)
 }
 
 fn bad_residuals(residuals: &[i16]) -> bool {

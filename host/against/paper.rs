@@ -138,16 +138,13 @@ impl Block<'_> {
     fn rate(&self, after_zero: bool, a: i128) -> i128 {
         let first = if self.component == Component::Y { 0 } else { 2 };
         let run = first + after_zero as usize;
-        let entry = |table: &[u64], row: usize, i: usize| table[2 * row + i] as i128;
-        if a == 0 {
-            return entry(&self.costs.run, run, 1);
+        let entry = |pair: &[u64; 2], i: usize| pair[i] as i128;
+        let (run, level, rest) = (&self.costs.run[run], &self.costs.level[first], &self.costs.level[first + 1]);
+        match a {
+            0 => entry(run, 1),
+            1 => 32768 + entry(run, 0) + entry(level, 0),
+            _ => 32768 + entry(run, 0) + entry(level, 1) + (a - 2) * entry(rest, 1) + entry(rest, 0),
         }
-        let sign_and_run = 32768 + entry(&self.costs.run, run, 0);
-        if a == 1 {
-            return sign_and_run + entry(&self.costs.level, first, 0);
-        }
-        let more = entry(&self.costs.level, first + 1, 1);
-        sign_and_run + entry(&self.costs.level, first, 1) + (a - 2) * more + entry(&self.costs.level, first + 1, 0)
     }
 
     /// The largest rate that the choice of a level looks at.
@@ -158,17 +155,18 @@ impl Block<'_> {
     /// What the flag of a coded block costs, or that of an empty one.
     pub fn cbf(&self, coded: usize) -> i128 {
         let pair = match self.component {
-            Component::Y => self.intra_coded as usize,
-            Component::U => 2,
-            Component::V => 3,
+            Component::Y if self.intra_coded => self.costs.cbf_luma,
+            Component::Y => self.costs.cbf_all,
+            Component::U => self.costs.cbf_cb,
+            Component::V => self.costs.cbf_cr,
         };
-        whole(self.lambda) * self.costs.cbf[2 * pair + coded] as i128
+        whole(self.lambda) * pair[coded] as i128
     }
 
     /// What the flag behind a nonzero level costs, of the last one or another.
     pub fn last(&self, ends: usize) -> i128 {
         let row = if self.component == Component::Y { 0 } else { 1 };
-        whole(self.lambda) * self.costs.last[2 * row + ends] as i128
+        whole(self.lambda) * self.costs.last[row][ends] as i128
     }
 
     /// What a magnitude costs at a place.

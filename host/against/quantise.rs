@@ -8,7 +8,7 @@ use crate::calls::{self, Quantise, COMPONENTS};
 use crate::order;
 use crate::tally::Tally;
 use crate::{costs_of_the_rust, fault_of};
-use galemosu::Coded;
+use galemosu::{Coded, Mode};
 use std::panic::catch_unwind;
 
 const ALL: &[usize] = &[0, 1, 2];
@@ -32,10 +32,7 @@ pub fn compare(accepted: u64) -> Tally {
 
 fn one(tally: &mut Tally, call: &Quantise) {
     let mut ours = call.buffer.clone();
-    let (slice, coded) = (call.intra_slice, call.intra_coded);
-    let answer =
-        galemosu::quantise(&mut ours, call.log2_side, call.component, call.settings, slice, coded, &call.costs)
-            .map_err(fault_of);
+    let answer = galemosu::quantise(&mut ours, &call.asked(Mode::Walk)).map_err(fault_of);
     let good = match order::quantise(call) {
         Some(fault) => {
             tally.refused(fault);

@@ -5,10 +5,13 @@ use crate::blocks::Random;
 
 pub const QP: u32 = 34;
 pub const LAMBDA: f64 = 57.9;
-pub const RUN: [u64; 8] = [21000, 48000, 37000, 26000, 21000, 48000, 37000, 26000];
-pub const LEVEL: [u64; 8] = [18000, 52000, 24000, 40000, 18000, 52000, 24000, 40000];
-pub const LAST: [u64; 4] = [12000, 70000, 12000, 70000];
-pub const CBF: [u64; 8] = [60000, 14000, 60000, 14000, 60000, 14000, 60000, 14000];
+/// Run, level, last, and the flags of all, luma, cb and cr.
+pub const COSTS: [u64; 28] = [
+    21000, 48000, 37000, 26000, 21000, 48000, 37000, 26000, // run
+    18000, 52000, 24000, 40000, 18000, 52000, 24000, 40000, // level
+    12000, 70000, 12000, 70000, // last
+    60000, 14000, 60000, 14000, 60000, 14000, 60000, 14000,
+];
 
 /// How many blocks of each kind.
 pub const BLOCKS: usize = 16;

@@ -7,8 +7,7 @@ mod recorder;
 fn main() {
     let folder = std::env::args().nth(1).expect("the folder to write to");
     let numbers = [recorder::LAMBDA.to_bits(), recorder::QP as u64].into_iter();
-    let costs = [&recorder::RUN[..], &recorder::LEVEL, &recorder::LAST, &recorder::CBF].concat();
-    let head: Vec<u8> = numbers.chain(costs).flat_map(u64::to_le_bytes).collect();
+    let head: Vec<u8> = numbers.chain(recorder::COSTS).flat_map(u64::to_le_bytes).collect();
     for (log2, kind, blocks) in recorder::blocks() {
         let samples = blocks.concat().into_iter().flat_map(i16::to_le_bytes);
         let file = format!("{folder}/{log2}-{}", kind.replace(' ', "-"));

@@ -7,7 +7,7 @@ use crate::calls::{self, SubBlock};
 use crate::order;
 use crate::tally::Tally;
 use crate::{costs_of_the_rust, fault_of};
-use galemosu::Coded;
+use galemosu::{Coded, Mode};
 use std::panic::catch_unwind;
 
 const ALL: &[usize] = &[0, 1, 2];
@@ -33,9 +33,7 @@ pub fn compare(accepted: u64) -> Tally {
 
 fn one(tally: &mut Tally, call: &SubBlock) {
     let mut ours = call.buffer.clone();
-    let (slice, coded) = (call.intra_slice, call.intra_coded);
-    let answer = galemosu::sub_block(&mut ours, call.log2_luma, &call.settings, call.run, slice, coded, &call.costs)
-        .map_err(fault_of);
+    let answer = galemosu::sub_block(&mut ours, &call.asked(Mode::Walk)).map_err(fault_of);
     let good = match order::sub_block(call) {
         Some(fault) => {
             tally.refused(fault);

@@ -28,7 +28,7 @@ pub fn compare(accepted: u64) -> Tally {
 
 fn one(tally: &mut Tally, call: &Transform) {
     let mut ours = call.buffer.clone();
-    let answer = galemosu::transform(&mut ours, call.log2_w, call.log2_h).map_err(|refusal| (refusal as u32, 0));
+    let answer = galemosu::transform(&mut ours, call.log2_w, call.log2_h).map_err(|refusal| (refusal.number(), 0));
     let good = match order::transform(call) {
         Some(fault) => {
             tally.refused(fault);

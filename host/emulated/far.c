@@ -25,34 +25,23 @@ static int all_written(const void *from, size_t n)
     return 1;
 }
 
-typedef uint32_t quantise(int16_t *, size_t, size_t, uint32_t, double, uint32_t, uint32_t, const uint64_t *,
-    uint64_t *);
-typedef uint32_t sub_block(int16_t *, size_t, size_t, const uint32_t *, const double *, uint32_t, uint32_t, uint32_t,
-    const uint64_t *, uint64_t *);
+typedef uint32_t quantise(int16_t *, size_t, size_t, uint32_t, double, uint32_t, const galemosu_costs *, uint64_t *);
 
 static uint32_t quantised(quantise *call, struct call *c, int16_t *buffer)
 {
-    return call(buffer, c->len, c->log2_a, c->qp[0], c->lambda[0], c->intra_slice, c->intra_coded, c->costs, c->answer);
-}
-
-static uint32_t three(sub_block *call, struct call *c, int16_t *buffer)
-{
-    return call(buffer, c->len, c->log2_a, c->qp, c->lambda, c->run, c->intra_slice, c->intra_coded, c->costs,
-        c->answer);
+    return call(buffer, c->len, c->log2_a, c->qp[0], c->lambda[0], c->flags, &c->costs, c->answer);
 }
 
 static uint32_t made(struct call *c, int16_t *buffer)
 {
     switch (c->what) {
+    case VERSION: return galemosu_version();
     case TRANSFORM: return galemosu_transform(buffer, c->len, c->log2_a, c->log2_b);
     case QUANTISE_Y: return quantised(galemosu_quantise_y, c, buffer);
     case QUANTISE_U: return quantised(galemosu_quantise_u, c, buffer);
     case QUANTISE_V: return quantised(galemosu_quantise_v, c, buffer);
-    case QUANTISE_LEAST_Y: return quantised(galemosu_quantise_least_y, c, buffer);
-    case QUANTISE_LEAST_U: return quantised(galemosu_quantise_least_u, c, buffer);
-    case QUANTISE_LEAST_V: return quantised(galemosu_quantise_least_v, c, buffer);
-    case SUB_BLOCK: return three(galemosu_sub_block, c, buffer);
-    default: return three(galemosu_sub_block_least, c, buffer);
+    default:
+        return galemosu_sub_block(buffer, c->len, c->log2_a, c->qp, c->lambda, c->run, c->flags, &c->costs, c->answer);
     }
 }
 

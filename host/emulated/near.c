@@ -66,6 +66,13 @@ static uint32_t relayed(struct call *c, int16_t *buffer)
     return c->result;
 }
 
+uint32_t galemosu_version(void)
+{
+    struct call c = {.what = VERSION};
+    int16_t none[1];
+    return relayed(&c, none);
+}
+
 uint32_t galemosu_transform(int16_t *block, size_t len, size_t log2_w, size_t log2_h)
 {
     struct call c = {.what = TRANSFORM, .len = len, .log2_a = log2_w, .log2_b = log2_h};
@@ -73,12 +80,11 @@ uint32_t galemosu_transform(int16_t *block, size_t len, size_t log2_w, size_t lo
 }
 
 #define QUANTISE(name, component)                                                                                \
-    uint32_t name(int16_t *block, size_t len, size_t log2_side, uint32_t qp, double lambda,                      \
-        uint32_t intra_slice, uint32_t intra_coded, const uint64_t costs[28], uint64_t answer[3])                \
+    uint32_t name(int16_t *block, size_t len, size_t log2_side, uint32_t qp, double lambda, uint32_t flags,      \
+        const galemosu_costs *costs, uint64_t answer[3])                                                         \
     {                                                                                                            \
         struct call c = {.what = component, .len = len, .log2_a = log2_side, .qp = {qp}, .lambda = {lambda},     \
-            .intra_slice = intra_slice, .intra_coded = intra_coded};                                             \
-        memcpy(c.costs, costs, sizeof c.costs);                                                                  \
+            .flags = flags, .costs = *costs};                                                                    \
         relayed(&c, block);                                                                                      \
         memcpy(answer, c.answer, 3 * sizeof *answer);                                                            \
         return c.result;                                                                                         \
@@ -86,21 +92,13 @@ uint32_t galemosu_transform(int16_t *block, size_t len, size_t log2_w, size_t lo
 QUANTISE(galemosu_quantise_y, QUANTISE_Y)
 QUANTISE(galemosu_quantise_u, QUANTISE_U)
 QUANTISE(galemosu_quantise_v, QUANTISE_V)
-QUANTISE(galemosu_quantise_least_y, QUANTISE_LEAST_Y)
-QUANTISE(galemosu_quantise_least_u, QUANTISE_LEAST_U)
-QUANTISE(galemosu_quantise_least_v, QUANTISE_LEAST_V)
 
-#define THREE(name, mode)                                                                                        \
-    uint32_t name(int16_t *buffer, size_t len, size_t log2_luma, const uint32_t qp[3], const double lambda[3],   \
-        uint32_t run, uint32_t intra_slice, uint32_t intra_coded, const uint64_t costs[28], uint64_t answer[7])  \
-    {                                                                                                            \
-        struct call c = {.what = mode, .len = len, .log2_a = log2_luma, .run = run, .intra_slice = intra_slice,  \
-            .intra_coded = intra_coded};                                                                         \
-        memcpy(c.qp, qp, sizeof c.qp), memcpy(c.lambda, lambda, sizeof c.lambda);                                \
-        memcpy(c.costs, costs, sizeof c.costs);                                                                 \
-        relayed(&c, buffer);                                                                                     \
-        memcpy(answer, c.answer, sizeof c.answer);                                                               \
-        return c.result;                                                                                         \
-    }
-THREE(galemosu_sub_block, SUB_BLOCK)
-THREE(galemosu_sub_block_least, SUB_BLOCK_LEAST)
+uint32_t galemosu_sub_block(int16_t *buffer, size_t len, size_t log2_luma, const uint32_t qp[3], const double lambda[3],
+    uint32_t run, uint32_t flags, const galemosu_costs *costs, uint64_t answer[7])
+{
+    struct call c = {.what = SUB_BLOCK, .len = len, .log2_a = log2_luma, .run = run, .flags = flags, .costs = *costs};
+    memcpy(c.qp, qp, sizeof c.qp), memcpy(c.lambda, lambda, sizeof c.lambda);
+    relayed(&c, buffer);
+    memcpy(answer, c.answer, sizeof c.answer);
+    return c.result;
+}

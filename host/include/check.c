@@ -1,9 +1,18 @@
 /* Calls every function of galemosu.h: document 01's P1 and P5, a block on which the two modes differ, a refusal of
- * each kind of call. Status 0 if all is as it must be. */
+ * each kind of call, flags and run bits that mean nothing, each pair of the costs by its name. Status 0 if all is as it
+ * must be. */
 #include "galemosu.h"
 #include <string.h>
 
-static uint64_t costs[28];
+static galemosu_costs costs;
+
+static void all_costs(uint64_t entry)
+{
+    uint64_t all[28];
+    for (int i = 0; i < 28; i++)
+        all[i] = entry;
+    memcpy(&costs, all, sizeof costs);
+}
 
 static int transform_is_right(void)
 {
@@ -12,62 +21,122 @@ static int transform_is_right(void)
         && galemosu_transform(block, 3, 1, 1) == GALEMOSU_LENGTH && galemosu_transform(block, 5, 0, 1) == GALEMOSU_SIDE;
 }
 
+enum { INTRA = GALEMOSU_INTRA_SLICE | GALEMOSU_INTRA_CODED };
+
 static int quantise_is_right(void)
 {
     int16_t block[] = {20, 7, 0, 0}, right[] = {1, 0, 0, 0};
     uint64_t answer[3] = {5, 5, 5};
-    if (galemosu_quantise_y(block, 4, 1, 4, 1.0 / 1024.0, 1, 1, costs, answer) != GALEMOSU_ACCEPTED
+    if (galemosu_quantise_y(block, 4, 1, 4, 1.0 / 1024.0, INTRA, &costs, answer) != GALEMOSU_ACCEPTED
         || memcmp(block, right, sizeof block))
         return 0;
     if (answer[0] != 0 || answer[1] != 1 || answer[2] != 22282240)
         return 0;
-    return galemosu_quantise_u(block, 4, 1, 64, 1.0, 1, 1, costs, answer) == GALEMOSU_QP
+    return galemosu_quantise_u(block, 4, 1, 64, 1.0, INTRA, &costs, answer) == GALEMOSU_QP
         && answer[0] == 1 && answer[2] == 0
-        && galemosu_quantise_v(block, 4, 1, 63, -1.0, 1, 1, costs, answer) == GALEMOSU_LAMBDA && answer[0] == 2;
+        && galemosu_quantise_v(block, 4, 1, 63, -1.0, INTRA, &costs, answer) == GALEMOSU_LAMBDA && answer[0] == 2;
 }
 
-/* 24 costs as much as 1 and as 2 at lambda 0: the walk takes 2, the second mode 1. */
-static int quantise_least_is_right(void)
+/* 24 costs as much as 1 and as 2 at lambda 0: the walk takes 2, the second mode 1. Bits 4 to 31 mean nothing. */
+static int modes_are_right(void)
 {
-    int16_t block[] = {-24, 0, 0, 0}, right[] = {-1, 0, 0, 0};
-    uint64_t answer[3] = {5, 5, 5};
-    if (galemosu_quantise_least_y(block, 4, 1, 4, 0.0, 1, 1, costs, answer) != GALEMOSU_ACCEPTED
-        || memcmp(block, right, sizeof block))
-        return 0;
-    if (answer[0] != 0 || answer[1] != 1 || answer[2] != 16777216)
-        return 0;
-    block[0] = -24;
-    if (galemosu_quantise_y(block, 4, 1, 4, 0.0, 1, 1, costs, answer) != GALEMOSU_ACCEPTED
-        || block[0] != -2 || answer[2] != 16777216)
-        return 0;
-    return galemosu_quantise_least_u(block, 4, 1, 64, 1.0, 1, 1, costs, answer) == GALEMOSU_QP
-        && answer[0] == 1 && answer[2] == 0
-        && galemosu_quantise_least_v(block, 4, 1, 63, -1.0, 1, 1, costs, answer) == GALEMOSU_LAMBDA && answer[0] == 2;
+    for (uint32_t more = 0; more < 2; more++) {
+        int16_t block[] = {-24, 0, 0, 0}, right[] = {-1, 0, 0, 0};
+        uint64_t answer[3] = {5, 5, 5};
+        uint32_t walk = INTRA | (more ? 0xfffffff0u : 0), least = walk | GALEMOSU_LEAST;
+        if (galemosu_quantise_y(block, 4, 1, 4, 0.0, least, &costs, answer) != GALEMOSU_ACCEPTED
+            || memcmp(block, right, sizeof block))
+            return 0;
+        if (answer[0] != 0 || answer[1] != 1 || answer[2] != 16777216)
+            return 0;
+        block[0] = -24;
+        if (galemosu_quantise_y(block, 4, 1, 4, 0.0, walk, &costs, answer) != GALEMOSU_ACCEPTED
+            || block[0] != -2 || answer[2] != 16777216)
+            return 0;
+        if (galemosu_quantise_u(block, 4, 1, 64, 1.0, least, &costs, answer) != GALEMOSU_QP || answer[0] != 1
+            || galemosu_quantise_v(block, 4, 1, 63, -1.0, least, &costs, answer) != GALEMOSU_LAMBDA || answer[0] != 2)
+            return 0;
+    }
+    return 1;
 }
 
-typedef uint32_t sub_block(int16_t *, size_t, size_t, const uint32_t *, const double *, uint32_t, uint32_t, uint32_t,
-    const uint64_t *, uint64_t *);
+/* 9 alone is skipped in an intra slice, and 10 is not; elsewhere 11 is, and 12 is not. A skipped block answers 0 and 0,
+ * whichever way the block itself is coded. */
+static int skip_is_right(void)
+{
+    static const struct { int16_t coefficient; uint32_t flags; int skipped; } rows[] = {
+        {9, 1, 1}, {9, 3, 1}, {10, 1, 0}, {10, 3, 0}, {11, 0, 1}, {11, 2, 1}, {12, 0, 0}, {12, 2, 0},
+    };
+    for (unsigned i = 0; i < sizeof rows / sizeof *rows; i++) {
+        int16_t block[] = {rows[i].coefficient, 0, 0, 0};
+        uint64_t answer[3];
+        if (galemosu_quantise_y(block, 4, 1, 4, 1.0 / 64.0, rows[i].flags, &costs, answer) != GALEMOSU_ACCEPTED
+            || answer[1] != 0 || (answer[2] == 0) != rows[i].skipped || block[0] != 0)
+            return 0;
+    }
+    return 1;
+}
 
-static int sub_block_is_right(sub_block *call)
+typedef uint32_t quantise(int16_t *, size_t, size_t, uint32_t, double, uint32_t, const galemosu_costs *, uint64_t *);
+
+/* What a block costs that becomes 3 0 -2 1 0 .. in scan order, its three signs taken off, with all entries 0 but one
+ * pair; lambda's whole number is 1, and the coefficients are whole steps, so that no squared error is in it. */
+static uint64_t bits(quantise *call, uint32_t flags, uint64_t *pair, uint64_t zero, uint64_t one)
+{
+    int16_t block[16] = {24, 0, 0, 0, -16, 0, 0, 0, 8};
+    uint64_t answer[3];
+    all_costs(0);
+    pair[0] = zero, pair[1] = one;
+    if (call(block, 16, 2, 4, 1.0 / 32768.0, flags, &costs, answer) != GALEMOSU_ACCEPTED || block[0] != 3
+        || block[4] != -2 || block[8] != 1 || answer[1] != 3)
+        return 0;
+    return answer[2] - 3 * 32768;
+}
+
+/* 3: run 0, level 1, one step, the end. 0: run 1. -2: after a zero, run 0, level 1, the end. 1: run 0, level 0. */
+static int costs_are_right(void)
+{
+    quantise *calls[] = {galemosu_quantise_y, galemosu_quantise_u, galemosu_quantise_v};
+    for (int k = 0; k < 3; k++)
+        for (uint32_t flags = 0; flags < 8; flags++) {
+            int j = k ? 2 : 0;
+            uint64_t *cbf = k == 2 ? costs.cbf_cr : k == 1 ? costs.cbf_cb : flags & 2 ? costs.cbf_luma : costs.cbf_all;
+            if (bits(calls[k], flags, costs.run[j], 100, 1) != 2 * 100 + 1
+                || bits(calls[k], flags, costs.run[j + 1], 100, 1) != 100
+                || bits(calls[k], flags, costs.level[j], 100, 1) != 100 + 2 * 1
+                || bits(calls[k], flags, costs.level[j + 1], 100, 1) != 2 * 100 + 1
+                || bits(calls[k], flags, costs.last[k != 0], 100, 1) != 2 * 100 + 1
+                || bits(calls[k], flags, cbf, 100, 1) != 1)
+                return 0;
+        }
+    all_costs(32768);
+    return 1;
+}
+
+static int sub_block_is_right(uint32_t flags)
 {
     int16_t buffer[24] = {0}, held[24];
-    uint32_t qp[3] = {4, 4, 4};
+    uint32_t qp[3] = {4, 4, 4}, not_v[3] = {4, 4, 99};
     double lambda[3] = {0.5, 0.5, 0.5};
     uint64_t answer[7];
     buffer[0] = 900;
     buffer[23] = 1024;
     memcpy(held, buffer, sizeof held);
-    if (call(buffer, 24, 2, qp, lambda, 7, 1, 1, costs, answer) != GALEMOSU_SAMPLE || answer[0] != 2
+    if (galemosu_sub_block(buffer, 24, 2, qp, lambda, 7, flags, &costs, answer) != GALEMOSU_SAMPLE || answer[0] != 2
         || memcmp(buffer, held, sizeof held))
         return 0;
-    return call(buffer, 24, 2, qp, lambda, 3, 1, 1, costs, answer) == GALEMOSU_ACCEPTED
-        && answer[1] > 0 && answer[3] == 0 && buffer[23] == 1024;
+    if (galemosu_sub_block(buffer, 23, 2, qp, lambda, 0, flags, &costs, answer) != GALEMOSU_LENGTH || answer[0] != 0)
+        return 0;
+    /* V is not run: its QP and its residual are not looked at */
+    return galemosu_sub_block(buffer, 24, 2, not_v, lambda, GALEMOSU_RUN_Y | GALEMOSU_RUN_U | 0xfffffff8u, flags,
+               &costs, answer) == GALEMOSU_ACCEPTED
+        && answer[1] > 0 && answer[3] == 0 && answer[6] == 0 && buffer[23] == 1024;
 }
 
 int main(void)
 {
-    for (int i = 0; i < 28; i++)
-        costs[i] = 32768;
-    return !(transform_is_right() && quantise_is_right() && quantise_least_is_right()
-        && sub_block_is_right(galemosu_sub_block) && sub_block_is_right(galemosu_sub_block_least));
+    all_costs(32768);
+    return !(galemosu_version() == GALEMOSU_VERSION && transform_is_right() && quantise_is_right() && modes_are_right()
+        && skip_is_right() && costs_are_right() && sub_block_is_right(INTRA)
+        && sub_block_is_right(INTRA | GALEMOSU_LEAST));
 }

@@ -7,17 +7,14 @@
 //!
 //!     cargo test --test strokes -- --nocapture     prints the tables
 
-use galemosu::{quantise, quantise_least, transform, Coded, Component, Costs, Refused, Settings};
+use galemosu::{quantise, transform, Coded, Component, Costs, Mode, Quantise, Settings};
 
 const PAGE: &str = include_str!("../../docs/ANSWER.md");
-const COSTS: Costs = Costs { run: [32768; 8], level: [32768; 8], last: [32768; 4], cbf: [32768; 8] };
+const COSTS: Costs = Costs::equal(Costs::BIT);
 
-type Quantiser = fn(&mut [i16], usize, Component, Settings, bool, bool, &Costs) -> Result<Coded, Refused>;
-
-/// An encoder's lambda: 0.57 · 2^((QP - 24) / 3).
+/// An encoder's lambda.
 fn usual(qp: u32) -> f64 {
-    let third = [1.0, 1.259_921_049_894_873_2, 1.587_401_051_968_199_4][qp as usize % 3];
-    0.57 * third * 2f64.powi(qp as i32 / 3 - 8)
+    Settings::usual(qp).lambda
 }
 
 /// T_N[k][n], by document 01's rule.
@@ -61,16 +58,18 @@ fn decoded(levels: &[i16], log2: usize, qp: u32) -> Vec<i64> {
 }
 
 /// The levels of a block of residuals, and what the call has answered.
-fn coded(call: Quantiser, residuals: &[i16], log2: usize, qp: u32, lambda: f64) -> (Vec<i16>, Coded) {
+fn coded(mode: Mode, residuals: &[i16], log2: usize, qp: u32, lambda: f64) -> (Vec<i16>, Coded) {
     let mut block = residuals.to_vec();
     transform(&mut block, log2, log2).expect("residuals of a camera");
-    let answer = call(&mut block, log2, Component::Y, Settings { qp, lambda }, true, true, &COSTS);
+    let mut call = Quantise::new(Component::Y, log2, Settings { qp, lambda }, &COSTS);
+    (call.intra_slice, call.intra_coded, call.mode) = (true, true, mode);
+    let answer = quantise(&mut block, &call);
     (block, answer.expect("a block of a camera"))
 }
 
 /// Decoded less true, sample by sample, of a block that is coded by the walk.
 fn errors(residuals: &[i16], log2: usize, qp: u32, lambda: f64) -> Vec<i64> {
-    let (levels, _) = coded(quantise, residuals, log2, qp, lambda);
+    let (levels, _) = coded(Mode::Walk, residuals, log2, qp, lambda);
     decoded(&levels, log2, qp).iter().zip(residuals).map(|(shown, true_)| shown - *true_ as i64).collect()
 }
 
@@ -88,11 +87,11 @@ fn on_the_page(line: &str) {
 
 /// The deepest bar that is left whole: two samples wide and half a block high, in the middle of an 8×8 block of the
 /// guess, where the camera sees paper. The correction is a residual of as much on the bar, and the block is emptied.
-fn deepest_bar(call: Quantiser, qp: u32, lambda: f64) -> i16 {
+fn deepest_bar(mode: Mode, qp: u32, lambda: f64) -> i16 {
     let is_bar = |i: i16| (2..6).contains(&(i / 8)) && (3..5).contains(&(i % 8));
     let emptied = |depth: &i16| {
         let residuals: Vec<i16> = (0..64).map(|i| if is_bar(i) { *depth } else { 0 }).collect();
-        let (levels, answer) = coded(call, &residuals, 3, qp, lambda);
+        let (levels, answer) = coded(mode, &residuals, 3, qp, lambda);
         assert_eq!(answer.count == 0, decoded(&levels, 3, qp).iter().all(|r| *r == 0));
         answer.count == 0
     };
@@ -103,9 +102,9 @@ fn deepest_bar(call: Quantiser, qp: u32, lambda: f64) -> i16 {
 fn a_bar_of_the_guess_is_left() {
     const QPS: [u32; 6] = [28, 34, 38, 42, 46, 51];
     on_the_page(&format!("| QP | {} |", QPS.map(|qp| qp.to_string()).join(" | ")));
-    for (name, call) in [("the walk", quantise as Quantiser), ("the cheapest block", quantise_least)] {
+    for (name, mode) in [("the walk", Mode::Walk), ("the cheapest block", Mode::Least)] {
         for (of, times) in [("an encoder's lambda", 1.0), ("ten times that", 10.0)] {
-            let depths = QPS.map(|qp| deepest_bar(call, qp, times * usual(qp)).to_string());
+            let depths = QPS.map(|qp| deepest_bar(mode, qp, times * usual(qp)).to_string());
             on_the_page(&format!("| {name}, {of} | {} |", depths.join(" | ")));
         }
     }
@@ -125,7 +124,7 @@ fn is_gap(i: usize) -> bool {
 #[test]
 fn the_gap_of_a_six_closes_by_a_quarter() {
     let six = six();
-    let (levels, answer) = coded(quantise, &six, 5, 40, usual(40));
+    let (levels, answer) = coded(Mode::Walk, &six, 5, 40, usual(40));
     assert_eq!((answer.count, answer.price), (364, 121_712_390_701_056));
     let shown = decoded(&levels, 5, 40);
     let gap: Vec<(i16, i64)> = (0..1024).filter(|i| is_gap(*i)).map(|i| (six[i], shown[i])).collect();

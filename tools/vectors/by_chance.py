@@ -1,7 +1,7 @@
 """Requests drawn from fixed seeds: every shape, QP, component and flag, with blocks and tables of many kinds;
 those of the second mode come last. Most are small; of side 32 there are a few dozen. About one in seven is refused."""
 import math
-from vectors.lines import BELOW_HALF, least, quantise, subblock, transform
+from vectors.lines import BELOW_HALF, CODED, SLICE, least, quantise, subblock, transform
 
 SCALES = [26214, 23302, 20560, 18396, 16384, 14564]
 NANS = ["7ff8000000000000", "fff8000000000000", "7ff0000000000001", "ffffffffffffffff"]
@@ -168,8 +168,9 @@ def surplus(r):
             for _ in range(r.between(1, 6))] if r.once_in(6) else []
 
 
-def flag(r):
-    return r.of((0, 1, 0, 1, 2, 4294967295))
+def flags(r):
+    """Intra slice and intra-coded, each in two of three requests."""
+    return SLICE * r.of((0, 1, 0, 1, 1, 1)) | CODED * r.of((0, 1, 0, 1, 1, 1))
 
 
 # ---- requests
@@ -193,8 +194,7 @@ def a_quantise(r, turn, log2):
         qp = min(qp // 6 * 6 + 4, 58)
     table, d = r.of(COSTS)(r), r.of(LAMBDAS)(r, qp)
     block = [max(-32767, min(32767, c)) for c in kind(r, 1 << log2, step(log2, qp))] + surplus(r)
-    given = {"log2": log2, "component": component, "qp": qp, "d": d, "intra_slice": flag(r), "intra_coded": flag(r),
-             "costs": table}
+    given = {"log2": log2, "component": component, "qp": qp, "d": d, "flags": flags(r), "costs": table}
     if r.once_in(8):
         spoil(r, r.of((3, 4, 5, 6, 6)), given, block, n)
         if r.once_in(2):
@@ -247,7 +247,7 @@ def a_subblock(r, turn, luma):
             del buffer[r.below(n):]
         else:
             buffer[at[some] + r.below(4)] = r.of((1024, -1024, 32767, -32768))
-    return subblock(buffer, log2, run, qp, d, flag(r), flag(r), table)
+    return subblock(buffer, log2, run, qp, d, flags(r), table)
 
 
 def late(r):
@@ -305,7 +305,7 @@ def tied(r, count):
         block = [r.of((1, -1)) * quarter * r.of((0, 0, 1, 2, 3, 3, 4, 5, 6, 6, 7, 10)) for _ in range(1 << 2 * log2)]
         table = [8192 * r.below(r.of((3, 6, 9))) for _ in range(28)]
         yield quantise(block + surplus(r), log2, turn % 3, 6 * k + 4,
-                       r.of((2.0 ** (2 * k - 6), 2.0 ** (2 * k - 6), 0.0)), flag(r), flag(r), table)
+                       r.of((2.0 ** (2 * k - 6), 2.0 ** (2 * k - 6), 0.0)), flags(r), table)
 
 
 def second_mode(r):

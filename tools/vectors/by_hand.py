@@ -2,7 +2,8 @@
 is a function that gives lines; SECTIONS is their order. The recorded file has nothing but requests, so that what a line
 is for stands here."""
 import math
-from vectors.lines import BELOW_HALF, FLAT, USUAL, bits, costs, least, put, quantise, subblock, transform
+from vectors.lines import (BELOW_HALF, CODED, FLAGS_AT, FLAT, LEAST, SLICE, USUAL, bits, costs, least, put, quantise,
+                           replaced, subblock, transform)
 
 NAN = "7ff8000000000000"
 # one residual block of each component, none of which vanishes at QP 4
@@ -30,7 +31,7 @@ def the_papers_numbers():
     yield quantise([16, 8, 0, 0], d=0.0)
     yield quantise([10, 0, 0, 0], d=1 / 64)
     yield from (quantise([c, 0, 0, 0]) for c in (9, 10))
-    yield from (quantise([c, 0, 0, 0], intra_slice=0) for c in (11, 12))
+    yield from (quantise([c, 0, 0, 0], flags=CODED) for c in (11, 12))
     yield from (quantise(put(1024, {0: c}), 5, qp=3) for c in (29183, 29184))
     yield from (quantise(put(1024, {0: c}), 5, d=8192.0) for c in (8191, 8192))
     yield from (quantise([16384] * n + [0] * (1024 - n), 5, d=0.0) for n in (64, 65))
@@ -177,7 +178,7 @@ def samples():
         for k in range(3):
             for qp in (0, 4, 63):
                 yield quantise([c, 0, 0, 0], component=k, qp=qp)
-                yield quantise([0, 0, 0, c], component=k, qp=qp, intra_slice=0)
+                yield quantise([0, 0, 0, c], component=k, qp=qp, flags=CODED)
         yield quantise([0, 0, 0, 0, c], qp=63)
 
 
@@ -365,27 +366,25 @@ def nothing_run():
 
 
 def flags():
-    """A flag is yes when it is not 0. 11 is skipped in an inter slice only; cbf_all serves luma that is not
-    intra-coded."""
-    for a in (0, 1, 2, 255, 256, 2 ** 31, 2 ** 32 - 1):
-        for b in (0, 1, 2, 2 ** 32 - 1):
-            yield quantise([11, 0, 0, 0], intra_slice=a, intra_coded=b, costs=MIXED)
-            yield subblock([9, 2, 0, 0] * 6, qp=(10, 16, 16), intra_slice=a, intra_coded=b, costs=MIXED)
+    """11 is skipped in an inter slice only; cbf_all serves luma that is not intra-coded. FLAGS stands for two numbers
+    that these requests once had, 0 or one of six and one of three others: so they come more than once."""
+    for slice_ in [0] + [SLICE] * 6:
+        for coded in [0] + [CODED] * 3:
+            yield quantise([11, 0, 0, 0], flags=slice_ | coded, costs=MIXED)
+            yield subblock([9, 2, 0, 0] * 6, qp=(10, 16, 16), flags=slice_ | coded, costs=MIXED)
 
 
 def thresholds():
     """The skip on both sides of its threshold, at QPs where a coefficient meets it exactly (34: 311 and 359) and where
     none does; one place that reaches it is enough."""
-    for slice_ in (0, 1):
+    for slice_ in (0, SLICE):
         at = 311 if slice_ else 359
         for c in (at - 1, at, at + 1, -at, 1 - at):
             for place in (0, 1, 2, 3):
-                yield quantise(put(4, {place: c}), qp=34, intra_slice=slice_, intra_coded=1 - slice_,
-                               component=place % 3)
+                yield quantise(put(4, {place: c}), qp=34, flags=slice_ or CODED, component=place % 3)
     for log2, qp, first in ((1, 0, 5), (2, 15, 17), (3, 29, 50), (1, 51, 2200), (2, 63, 4000)):
         for c in range(first, first * 2, max(1, first // 6)):
-            yield quantise(put(1 << 2 * log2, {1: -c, 2: c - 1}), log2, qp=qp, d=0.0, intra_slice=c % 2,
-                           intra_coded=c // 2 % 2)
+            yield quantise(put(1 << 2 * log2, {1: -c, 2: c - 1}), log2, qp=qp, d=0.0, flags=c % 4)
 
 
 # ---- the quantiser's choices
@@ -394,13 +393,13 @@ def contexts():
     """No two cost entries equal; places first, after a zero and after a nonzero; magnitudes 1, 2 and above."""
     blocks = [[200, 0, 0, 0], [0, 0, 0, 200], [200, 100, 60, 33], [0, 200, -17, 170], [-20, 0, 20, 0], [33, -33, 0, 33],
               [50, 49, 48, 47]]
-    for coded in (0, 1):
+    for coded in (0, CODED):
         for k in range(3):
             for block in blocks:
-                yield quantise(block, component=k, intra_coded=coded, costs=MIXED)
-                yield quantise(block, component=k, intra_coded=coded, costs=MIXED[::-1], d=1 / 8192)
+                yield quantise(block, component=k, flags=SLICE | coded, costs=MIXED)
+                yield quantise(block, component=k, flags=SLICE | coded, costs=MIXED[::-1], d=1 / 8192)
             yield quantise(put(16, {0: 60, 1: -20, 3: 9, 4: 33, 8: -70, 9: 12, 15: 500}), 2, component=k,
-                           intra_coded=coded, costs=MIXED)
+                           flags=SLICE | coded, costs=MIXED)
     for block in blocks:
         yield quantise(block, costs=costs(0, run_1_1=900000, run_0_1=400000, level_0_1=100, level_1_1=70000))
         yield quantise(block, component=2, costs=costs(1000, run_3_0=900000, run_2_0=400000, last_1_0=5000,
@@ -497,7 +496,7 @@ def wide_rates():
 # ---- the second mode
 
 def in_the_second_mode(*sections, every=1):
-    """Of these sections, every so manieth request of a call that has a second mode, with its verb."""
+    """Of these sections, every so manieth request of a call that has a second mode, in it."""
     for section in sections:
         yield from [least(line) for line in section() if not line.startswith(b"transform ")][::every]
 
@@ -627,18 +626,18 @@ GOOD = {
     b"subblock": subblock(PICTURE),
 }
 # the same of the second mode
-LEAST = {verb + b"-least": least(GOOD[verb]) for verb in (b"quantise", b"subblock")}
+GOOD_LEAST = {verb: least(GOOD[verb]) for verb in FLAGS_AT}
 # what the words of a request are, after its verb
 FIELDS = {
     b"transform": ["log2"] * 2 + ["n"] + ["sample"] * 4,
-    b"quantise": ["component", "log2", "u32", "lambda", "u32", "u32"] + ["cost"] * 28 + ["n"] + ["sample"] * 4,
-    b"subblock": ["log2", "u32"] + ["u32", "lambda"] * 3 + ["u32"] * 2 + ["cost"] * 28 + ["n"] + ["sample"] * 24,
+    b"quantise": ["component", "log2", "u32", "lambda", "flags"] + ["cost"] * 28 + ["n"] + ["sample"] * 4,
+    b"subblock": ["log2", "u32"] + ["u32", "lambda"] * 3 + ["flags"] + ["cost"] * 28 + ["n"] + ["sample"] * 24,
 }
-FIELDS.update({verb: FIELDS[verb.removesuffix(b"-least")] for verb in LEAST})
 # past each type, first one whose low bits would pass
 PAST_TYPE = {
     "log2": [2 ** 64 + 2, 2 ** 64, 10 ** 20, 10 ** 30],
     "u32": [2 ** 32 + 4, 2 ** 32, 2 ** 64 + 4],
+    "flags": [2 ** 32 + 4, 2 ** 32, 2 ** 64 + 4],
     "cost": [2 ** 64 + 32768, 2 ** 64, 10 ** 21],
     "sample": [65536 + 20, 32768, -32769, 20 - 65536, 2 ** 32 + 7, 2 ** 64 + 7],
     "component": [3, 4, 256, 2 ** 32, 2 ** 64 + 1],
@@ -646,18 +645,19 @@ PAST_TYPE = {
 }
 
 
-def replaced(line, at, word):
-    words = line.split(b" ")
-    return b" ".join(words[:at] + [word] + words[at + 1:])
-
-
 def chosen_fields(verb):
     """Every field's place among the words, but of costs and samples only the first, a middle one and the last."""
     kinds = FIELDS[verb]
-    for i, kind in enumerate(kinds):
-        same = [j for j, other in enumerate(kinds) if other == kind]
-        if kind not in ("cost", "sample") or i in (same[0], same[len(same) // 2], same[-1]):
-            yield i + 1, kind
+    for at in flags_twice(verb, range(1, len(kinds) + 1)):
+        kind = kinds[at - 1]
+        same = [j for j, other in enumerate(kinds, 1) if other == kind]
+        if kind not in ("cost", "sample") or at in (same[0], same[len(same) // 2], same[-1]):
+            yield at, kind
+
+
+def flags_twice(verb, places):
+    """FLAGS stands for two fields that these requests once had: what was wrong with either is wrong with it."""
+    return [at for at in places for _ in range(2 if at == FLAGS_AT.get(verb) else 1)]
 
 
 def spaces(good=GOOD):
@@ -736,7 +736,7 @@ def missing_and_more(good=GOOD):
     for verb, line in good.items():
         words = line.split(b" ")
         n = len(FIELDS[verb]) - FIELDS[verb][::-1].index("n")
-        for at in range(1, n + 2):
+        for at in flags_twice(verb, range(1, n + 2)):
             yield b" ".join(words[:at] + words[at + 1:])
             yield b" ".join(words[:at] + words[at:at + 1] + words[at:])
             yield b" ".join(words[:at])
@@ -757,11 +757,16 @@ def most_samples():
     yield quantise([20, 7, 0, 0] + [-32768] * 8188)
 
 
-def long_lines():
-    """The longest request of the first mode that can be read has 58,083 bytes. A longer line is passed over to its end,
-    and gets one answer: what stands in it behind the first 65,535 bytes, or any other number, is no request."""
+def long_request(flags):
+    """Every word as long as can be, but for FLAGS."""
     most = 2 ** 32 - 1
-    yield subblock([-32768] * 8192, 2 ** 64 - 1, most, (most,) * 3, (NAN,) * 3, most, most, [2 ** 64 - 1] * 28)
+    return subblock([-32768] * 8192, 2 ** 64 - 1, most, (most,) * 3, (NAN,) * 3, flags, [2 ** 64 - 1] * 28)
+
+
+def long_lines():
+    """A line longer than 65,535 bytes is passed over to its end, and gets one answer: what stands in it behind the
+    first 65,535 bytes, or any other number, is no request."""
+    yield long_request(SLICE | CODED)
     good = GOOD[b"transform"]
     for n in (4096, 16384, 32768, 65535, 65536, 131070):
         yield b"x" * n + good
@@ -774,26 +779,93 @@ def long_lines():
 
 
 def malformed_in_the_second_mode():
-    """Some of each kind; verbs that look like the two; the longest request that can be read, of 58,089 bytes."""
-    yield from spaces(LEAST)
-    yield from like_a_verb(LEAST)
+    """Some of each kind; verbs that look like the two; a long request that can be read."""
+    yield from spaces(GOOD_LEAST)
+    yield from like_a_verb(GOOD_LEAST)
     for verb in (b"quantise-", b"quantise -least", b"quantise least", b"quantise_least", b"quantiseleast",
                  b"quantise--least", b"quantise-LEAST",
                  b"quantise-least-least", b"least", b"-least", b"least-quantise", b"quantise-lease", b"quantise-most",
                  b"quantise-l", b"subblock-leas",
                  b"sub-block-least", b"sub_block_least"):
-        like = LEAST[b"quantise-least" if verb.find(b"quantise") >= 0 else b"subblock-least"]
-        yield verb + b" " + like.split(b" ", 1)[1]
-    yield least(GOOD[b"transform"])
-    yield from list(like_a_number(LEAST))[::5]
-    yield from list(lambdas_in_hex(LEAST))[::4]
-    yield from list(missing_and_more(LEAST))[::2]
+        yield replaced(GOOD_LEAST[b"quantise" if verb.find(b"quantise") >= 0 else b"subblock"], 0, verb)
+    yield replaced(GOOD[b"transform"], 0, b"transform-least")
+    yield from list(like_a_number(GOOD_LEAST))[::5]
+    yield from list(lambdas_in_hex(GOOD_LEAST))[::4]
+    yield from list(missing_and_more(GOOD_LEAST))[::2]
     for n in (8192, 8193):
         yield least(quantise([20, 7, 0, 0] + [0] * (n - 4)))
         yield least(subblock(PICTURE + [1] * (n - 24)))
-    yield least(subblock([-32768] * 8192, 2 ** 64 - 1, 2 ** 32 - 1, (2 ** 32 - 1,) * 3, (NAN,) * 3, 2 ** 32 - 1,
-                         2 ** 32 - 1, [2 ** 64 - 1] * 28))
-    yield from LEAST.values()
+    yield long_request(SLICE | CODED | LEAST)
+    yield from GOOD_LEAST.values()
+
+
+# ---- FLAGS
+
+def by_flags(flags):
+    """Three requests whose answers tell the three bits: a block that is skipped but in an intra slice, luma whose walk
+    is dearer than the cheapest block, and both together in three components; cbf_all and cbf_luma differ."""
+    yield quantise([11, 0, 0, 0], flags=flags, costs=MIXED)
+    yield quantise([12, 32, 0, 0], flags=flags, costs=in_units(level_0_0=126, run_1_0=50, cbf_0_1=3, cbf_1_1=5))
+    yield subblock(put(16, {2: -3}) + [6, 1, 2, 1] + [11, 28, -9, 1], qp=(4, 22, 16), flags=flags,
+                   costs=in_units(level_0_0=111, run_1_0=21, run_1_1=4, cbf_0_1=3, cbf_1_1=5))
+
+
+def bits_of_flags():
+    """None, each of the three alone, each pair and all. Then the other 29, which mean nothing: each alone and with all
+    three, and all of them together with each of the eight; the last is 2^32 - 1."""
+    for low in range(8):
+        yield from by_flags(low)
+    for bit in range(3, 32):
+        yield from by_flags(1 << bit)
+        yield from by_flags(SLICE | CODED | LEAST | 1 << bit)
+    for low in range(8):
+        yield from by_flags(2 ** 32 - 8 | low)
+
+
+def flags_not_read():
+    """2^32 and more, also where the low bits would pass; below 0; other texts of 3 and 7; none; two and three words, as
+    bits by themselves; at another place. The transform has none."""
+    past = [2 ** 32 + low for low in range(8)] + [2 ** 33, 2 ** 63, 2 ** 64 - 1, 2 ** 64, 2 ** 64 + 3, 10 ** 30]
+    texts = [b"01", b"03", b"07", b"00", b"0000000003", b"000000000000000000000007", b"+3", b"-0", b"", b"0x3", b"0b11",
+             b"3.", b"3.0", b"3u", b"3,", b"1,1", b"1|2", b"1+2", b"011", b"true", b"yes", b"I", b"least"]
+    for verb, at in FLAGS_AT.items():
+        line = GOOD[verb]
+        yield from (replaced(line, at, b"%d" % n) for n in past + [-1, -3, -7, -2 ** 31, -2 ** 32])
+        yield from (replaced(line, at, text) for text in texts)
+        yield from (replaced(line, at, some) for some in (b"3 3", b"3 0", b"0 3", b"7 7", b"1 1 0", b"1 1 1", b"1 2 4"))
+        words = line.split(b" ")
+        without = words[:at] + words[at + 1:]
+        yield from (b" ".join(without[:i] + [b"3"] + without[i:]) for i in (1, at - 1, at + 29, len(without)))
+        yield b" ".join(without)
+    for at in (1, 3, 4):
+        yield replaced(GOOD[b"transform"], at, b"3 " + GOOD[b"transform"].split(b" ")[at])
+
+
+def two_flags():
+    """The form that requests once had, with two words for FLAGS. They are FLAGS and the first entry of the tables, the
+    last entry is N, and N is a sample: so it is malformed but where that entry is by chance one more than N. Then it is
+    read as what it is."""
+    for a, b in ((0, 0), (0, 1), (1, 0), (1, 1), (3, 3), (2 ** 32 - 1, 2 ** 32 - 1)):
+        both = "%d %d" % (a, b)
+        for last_entry in (32768, 0, 4, 5, 6, 24, 25, 26):
+            yield quantise([20, 7, 0, 0], flags=both, costs=FLAT[:27] + [last_entry])
+            yield subblock(PICTURE, flags=both, costs=FLAT[:27] + [last_entry])
+
+
+def verbs_with_least():
+    """The second mode has no verbs of its own: those that it once had are not read, with FLAGS or with two words."""
+    for verb, at in FLAGS_AT.items():
+        yield verb + b"-least"
+        for flags in (b"0", b"3", b"4", b"7", b"0 0", b"0 1", b"1 0", b"1 1"):
+            yield replaced(replaced(GOOD[verb], at, flags), 0, verb + b"-least")
+    yield replaced(quantise([20, 7, 0, 0], flags="1 1", costs=FLAT[:27] + [5]), 0, b"quantise-least")
+    yield replaced(subblock(PICTURE, flags="1 1", costs=FLAT[:27] + [25]), 0, b"subblock-least")
+
+
+def longest_requests():
+    """58,072 bytes: with a FLAGS of ten digits, in either mode."""
+    yield long_request(2 ** 32 - 1 - LEAST)
+    yield long_request(2 ** 32 - 1)
 
 
 def last():
@@ -811,6 +883,7 @@ SECTIONS = [
     refusals_of_the_second_mode, what_runs_in_the_second_mode, the_walks_choices_in_the_second_mode,
     where_the_walk_is_dearer, ties_of_the_second_mode,
     levels_at_equal_price, close_prices, malformed_in_the_second_mode,
+    bits_of_flags, flags_not_read, two_flags, verbs_with_least, longest_requests,
 ]
 
 

@@ -2,6 +2,11 @@
 intra-coded, intra slice, d 1/1024, every cost entry 32768."""
 import math, struct
 
+# the bits of FLAGS that mean something: intra slice, intra-coded, the second mode
+SLICE, CODED, LEAST = 1, 2, 4
+USUAL_FLAGS = SLICE | CODED
+# which word it is
+FLAGS_AT = {b"quantise": 5, b"subblock": 9}
 FLAT = [32768] * 28
 USUAL = 1 / 1024
 BELOW_HALF = math.nextafter(0.5, 0) / 32768
@@ -20,20 +25,41 @@ def transform(residuals, lw=1, lh=1, n=None):
     return f"transform {lw} {lh} {numbers(residuals, n)}".encode()
 
 
-def quantise(coefficients, log2=1, component=0, qp=4, d=USUAL, intra_slice=1, intra_coded=1, costs=FLAT, n=None):
-    settings = f"{component} {log2} {qp} {bits(d)} {intra_slice} {intra_coded}"
+def quantise(coefficients, log2=1, component=0, qp=4, d=USUAL, flags=USUAL_FLAGS, costs=FLAT, n=None):
+    settings = f"{component} {log2} {qp} {bits(d)} {flags}"
     return f"quantise {settings} {' '.join(map(str, costs))} {numbers(coefficients, n)}".encode()
 
 
-def subblock(residuals, log2=2, run=7, qp=(4, 4, 4), d=(USUAL,) * 3, intra_slice=1, intra_coded=1, costs=FLAT, n=None):
+def subblock(residuals, log2=2, run=7, qp=(4, 4, 4), d=(USUAL,) * 3, flags=USUAL_FLAGS, costs=FLAT, n=None):
     settings = " ".join(f"{a} {bits(b)}" for a, b in zip(qp, d))
-    flags = f"{intra_slice} {intra_coded}"
     return f"subblock {log2} {run} {settings} {flags} {' '.join(map(str, costs))} {numbers(residuals, n)}".encode()
+
+
+def replaced(line, at, word):
+    words = line.split(b" ")
+    return b" ".join(words[:at] + [word] + words[at + 1:])
+
+
+def flags_of(line):
+    """Its FLAGS; 0 of a line that has no such number."""
+    words = line.split(b" ")
+    at = FLAGS_AT.get(words[0], 0)
+    word = words[at] if at < len(words) else b""
+    return int(word) if word.isdigit() and len(word) <= 10 else 0
+
+
+def is_least(line):
+    return flags_of(line) & LEAST != 0
 
 
 def least(line):
     """The same request in the second mode."""
-    return line.replace(b" ", b"-least ", 1)
+    return replaced(line, FLAGS_AT[line.split(b" ")[0]], b"%d" % (flags_of(line) | LEAST))
+
+
+def walked(line):
+    """The same request in the first mode."""
+    return replaced(line, FLAGS_AT[line.split(b" ")[0]], b"%d" % (flags_of(line) & ~LEAST))
 
 
 # where each table starts among the 28 entries

@@ -12,6 +12,7 @@ use Rattle.integers.specs.Tests.{some}
 use Rattle.refusals.specs.declared.Component.{Component}
 use Rattle.refusals.specs.declared.Component.the-variants.{Y, U, «V»}
 use Rattle.transform.specs.Call.{wild, sampleFault}
+use Rattle.price.specs.declared.Costs.{Costs}
 use Rattle.components.specs.declared.Request.{Request}
 use Rattle.components.specs.Call.{requested, bit, runs, area, start, stretch, inTrans}
 use Rattle.components.proofs.Blocks.{sample-of-stretch}
@@ -32,19 +33,19 @@ lent-is Y n l = ap (λ (i : ℕ). take i l) (y-long n)
 lent-is U n l = ap (λ (i : ℕ). take i (drop n l)) (u-long n (n / 4))
 lent-is «V» n l = ap (λ (i : ℕ). take i (drop (n + n / 4) l)) (v-long n (n / 4))
 
-module _ (b : List ℤ) (q : Request) (n : ℕ) (z : Sizes (q .«log2_luma») n) where
-  pub stretch-is : (k : Component) → residuals k n b ≡ stretch k (requested b q)
+module _ (b : List ℤ) (t : Costs) (q : Request) (n : ℕ) (z : Sizes (q .«log2_luma») n) where
+  pub stretch-is : (k : Component) → residuals k n b ≡ stretch k (requested b t q)
   unfolding stretch area start requested
   stretch-is Y = λ i. take (z .luma i) b
   stretch-is U = λ i. take (z .chroma i) (drop (z .luma i) b)
   stretch-is «V» = λ i. take (z .chroma i) (drop (z .luma i + z .chroma i) b)
 
   -- what code tests of a part says of the component for which it is lent
-  pub sample-is : (k : Component) {r t : Bool} → r ≡ (bit k (q .run) && some wild (lent k n b)) → r ≡ t
-      → inTrans k sampleFault .holds (requested b q) ≡ t
+  pub sample-is : (k : Component) {r o : Bool} → r ≡ (bit k (q .run) && some wild (lent k n b)) → r ≡ o
+      → inTrans k sampleFault .holds (requested b t q) ≡ o
   unfolding requested runs
   sample-is k f g =
-      sample-of-stretch k (requested b q)
+      sample-of-stretch k (requested b t q)
       ∙ ap (λ (l : List ℤ). bit k (q .run) && some wild l) (sym (lent-is k n b ∙ stretch-is k))
       ∙ sym f
       ∙ g

@@ -16,6 +16,8 @@ ghost use Rattle.integers.specs.Tests.{some};
 ghost use Rattle.refusals.specs.Faults.{verdict};
 ghost use Rattle.transform.specs.Call.{wild};
 ghost use Rattle.price.specs.Lambda.{lambdaRefused};
+ghost use Rattle.price.specs.declared.Costs.{Costs};
+ghost use Rattle.price.specs.Costs.{costsOf};
 ghost use Rattle.refusals.specs.Sides.{mostLog2};
 ghost use Rattle.components.specs.Call.{bit, requested};
 ghost use Rattle.components.specs.Inner.Groups.{settingsFaults, bufferFaults};
@@ -81,7 +83,7 @@ fn bad_residuals(q: Request, component: Component, part: &[i16]) -> bool
 
 // 1; 2 for Y, U, V; 3 likewise.
 pub fn test_settings(q: Request) -> Tested
-    ensures { λ r. ⌜ ((l : List ℤ) → verdictOf r ≡ verdict settingsFaults (requested l q)) ⌝ }
+    ensures { λ r. ⌜ ((l : List ℤ) (t : Costs) → verdictOf r ≡ verdict settingsFaults (requested l t q)) ⌝ }
 {
     if q.log2_luma < 2 {
         return Tested::Refused(Refusal::Side, Component::Y);
@@ -124,11 +126,11 @@ pub fn luma_places(log2: usize) -> usize
 }
 
 // 4; 5; 6 for Y, U, V.
-pub fn test_buffer(buffer: &[i16], q: Request) -> Tested
+pub fn test_buffer(buffer: &[i16], costs: &[u64; 28], q: Request) -> Tested
     requires { ⌜ (2 ≤ q .«log2_luma») × (q .«log2_luma» ≤ mostLog2) ⌝ }
-    ensures { λ r. ⌜ verdictOf r ≡ verdict bufferFaults (requested (now (buffer .entry)) q) ⌝ }
+    ensures { λ r. ⌜ verdictOf r
+        ≡ verdict bufferFaults (requested (now (buffer .entry)) (costsOf (now (costs .entry))) q) ⌝ }
 {
-    let costs = q.costs;
     if costs_refused(costs) {
         return Tested::Refused(Refusal::Cost, Component::Y);
     }

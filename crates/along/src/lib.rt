@@ -1,11 +1,11 @@
 // The walk along the scan, before its cut: each place is passed or stepped at, and the level taken is put down. The
 // totals and the levels are the definition's (specs/Walk.antt and specs/Inner/OnePass.antt of `price`).
 use scaling::scale::Scale;
-use step::Walk;
 use scan::block_place;
 use scan::magnitude_at;
 use scan::put_magnitude;
 use scan::scan_place;
+use step::Walk;
 use weights::prices::Prices;
 ghost use mathlib.Core.Path.{_≡_};
 ghost use mathlib.Core.Bool.{cond};

@@ -1,68 +1,180 @@
-// The calls that requests ask for: the fields of a request as the inputs of its call.
-use coding::Coding;
-use coding::Mode;
-use components::Request;
-use flat::costs_at;
+// The calls that requests ask for, made through the exports: the fields of a request as the numbers that cross to C,
+// and what the call left as a reply. The reply's text is the definition's (specs/Calls.antt).
+use galemosu::galemosu_quantise_u;
+use galemosu::galemosu_quantise_v;
+use galemosu::galemosu_quantise_y;
+use galemosu::galemosu_sub_block;
+use galemosu::galemosu_transform;
 use numerals::number::double_of;
-use price::Settings;
-use refusals::Component;
+use replies::Reply;
+use verbs::Verb;
 ghost use mathlib.Core.Path.{_≡_};
-ghost use Prim.Native.Nat.{_≤_};
-ghost use lib.ListN.{getD};
-ghost use Rattle.calls.specs.Asked.{componentBy, settingsAt, codingOf, requestOf};
+ghost use Prim.Native.Nat.{_+_, _≤_};
+ghost use lib.ListN.{length, take, drop};
+ghost use Rattle.requests.specs.Request.{kindsOf, Limited};
+ghost use Rattle.surface.specs.Surface.{quantAsked, QuantLeft};
+ghost use Rattle.calls.specs.Calls.{componentBy, transBy, transText, quantBy, quantText, qpsBy, lambdasBy};
+ghost use Rattle.calls.specs.Calls.{threeBy, threeText, answered};
+ghost use Rattle.calls.specs.Inner.Replied.{Short, replyBy, Replied};
 
-fn component_of(n: u64) -> Component
-    ensures { λ r. ⌜ r ≡ componentBy n ⌝ }
+fn copy(from: &[u64], to: &mut [u64])
+    requires { ⌜ (length (now from) ≡ length (now to)) × (length (now to) ≤ 28) ⌝ }
+    ensures { λ _. ⌜ now (to .exit) ≡ now (from .entry) ⌝ }
 {
-    match n {
-        0 => Component::Y,
-        1 => Component::U,
-        _ => Component::V,
+    let n = to.len();
+    let mut i = 0;
+    while i < n {
+        to[i] = from[i];
+        i += 1;
     }
 }
 
-// A QP and a LAMBDA.
-fn settings_of(fields: &[u64; 40], i: usize) -> Settings
-    requires { ⌜ (i ≤ 38) × (getD (now fields) i 0 ≤ 4294967295) ⌝ }
-    ensures { λ r. ⌜ r ≡ settingsAt i (now (fields .entry)) ⌝ }
+// The 28 costs that stand from field i on.
+fn costs_from(fields: &[u64], i: usize) -> [u64; 28]
+    requires { ⌜ (i + 28 ≤ length (now fields)) × (i ≤ 40) ⌝ }
+    ensures { λ r. ⌜ r ≡ take 28 (drop i (now (fields .entry))) ⌝ }
 {
-    Settings {
-        qp: fields[i] as u32,
-        lambda: double_of(fields[i + 1]),
+    let mut costs = [0u64; 28];
+    copy(&fields[i..i + 28], &mut costs);
+    costs
+}
+
+// What a call left: the numbers of its answer where its result is 0, else the result and the component.
+fn reply_by(result: u32, component: u64, count: usize, numbers: [u64; 6]) -> Reply
+    ensures { λ r. ⌜ r ≡ replyBy result component count numbers ⌝ }
+{
+    if result == 0 {
+        return Reply {
+            accepted: true,
+            count,
+            numbers,
+        };
+    }
+    Reply {
+        accepted: false,
+        count: 2,
+        numbers: [result as u64, component, 0, 0, 0, 0],
     }
 }
 
-// What `quantise` asks the call for, and in the other mode `quantise-least`.
-pub fn coding_of(fields: &[u64; 40], mode: Mode) -> Coding
-    requires { ⌜ getD (now fields) 2 0 ≤ 4294967295 ⌝ }
-    ensures { λ r. ⌜ r ≡ codingOf mode (now (fields .entry)) ⌝ }
+fn call_transform(room: &mut [i16], fields: &[u64]) -> Reply
+    requires { ⌜ length (now fields) ≡ 40 ⌝ }
+    ensures { λ r. ⌜ Replied (transText (transBy (now (fields .entry)) (now (room .entry))))
+        (now (room .entry)) r (now (room .exit)) ⌝ }
 {
-    Coding {
-        log2: fields[1] as usize,
-        component: component_of(fields[0]),
-        settings: settings_of(fields, 2),
-        intra_slice: fields[4] != 0,
-        intra_coded: fields[5] != 0,
-        costs: costs_at(fields, 6),
-        mode,
-    }
+    let result = galemosu_transform(room, fields[0] as usize, fields[1] as usize);
+    reply_by(result, 0, 0, [0, 0, 0, 0, 0, 0])
 }
 
-// What `subblock` asks the call for, and in the other mode `subblock-least`.
-pub fn request_of(fields: &[u64; 40], mode: Mode) -> Request
-    requires { ⌜ (getD (now fields) 1 0 ≤ 4294967295) × (getD (now fields) 2 0 ≤ 4294967295)
-        × (getD (now fields) 4 0 ≤ 4294967295) × (getD (now fields) 6 0 ≤ 4294967295) ⌝ }
-    ensures { λ r. ⌜ r ≡ requestOf mode (now (fields .entry)) ⌝ }
+// The export of the component that a field names.
+fn quantise_by(
+    component: u64,
+    room: &mut [i16],
+    log2: usize,
+    qp: u32,
+    lambda: f64,
+    flags: u32,
+    costs: &[u64; 28],
+    answer: &mut [u64; 3],
+) -> u32
+    ensures { λ r. ⌜ QuantLeft
+        (quantAsked (componentBy component) (now (room .entry)) log2 qp lambda flags (now (costs .entry)))
+        r (now (answer .exit)) (now (room .exit)) ⌝ }
 {
-    Request {
-        log2_luma: fields[0] as usize,
-        y: settings_of(fields, 2),
-        u: settings_of(fields, 4),
-        v: settings_of(fields, 6),
-        run: fields[1] as u32,
-        intra_slice: fields[8] != 0,
-        intra_coded: fields[9] != 0,
-        costs: costs_at(fields, 10),
-        mode,
+    if component == 0 {
+        return galemosu_quantise_y(room, log2, qp, lambda, flags, costs, answer);
+    }
+    if component == 1 {
+        return galemosu_quantise_u(room, log2, qp, lambda, flags, costs, answer);
+    }
+    galemosu_quantise_v(room, log2, qp, lambda, flags, costs, answer)
+}
+
+fn call_quantise(room: &mut [i16], fields: &[u64]) -> Reply
+    requires { ⌜ Short (now fields) 2 × Short (now fields) 4 × (length (now fields) ≡ 40) ⌝ }
+    ensures { λ r. ⌜ Replied (quantText (quantBy (now (fields .entry)) (now (room .entry))))
+        (now (room .entry)) r (now (room .exit)) ⌝ }
+{
+    let lambda = double_of(fields[3]);
+    let costs = costs_from(fields, 5);
+    let mut answer = [0u64; 3];
+    let result = quantise_by(
+        fields[0],
+        room,
+        fields[1] as usize,
+        fields[2] as u32,
+        lambda,
+        fields[4] as u32,
+        &costs,
+        &mut answer,
+    );
+    reply_by(result, answer[0], 2, [answer[1], answer[2], 0, 0, 0, 0])
+}
+
+// The QPs of Y, U and V.
+fn qps_of(fields: &[u64]) -> [u32; 3]
+    requires { ⌜ Short (now fields) 2 × Short (now fields) 4 × Short (now fields) 6 × (length (now fields) ≡ 40) ⌝ }
+    ensures { λ r. ⌜ r ≡ qpsBy (now (fields .entry)) ⌝ }
+{
+    [fields[2] as u32, fields[4] as u32, fields[6] as u32]
+}
+
+// The lambdas of Y, U and V.
+fn lambdas_of(fields: &[u64]) -> [f64; 3]
+    requires { ⌜ length (now fields) ≡ 40 ⌝ }
+    ensures { λ r. ⌜ r ≡ lambdasBy (now (fields .entry)) ⌝ }
+{
+    [
+        double_of(fields[3]),
+        double_of(fields[5]),
+        double_of(fields[7]),
+    ]
+}
+
+fn call_sub_block(room: &mut [i16], fields: &[u64]) -> Reply
+    requires { ⌜ Short (now fields) 1 × Short (now fields) 2 × Short (now fields) 4 × Short (now fields) 6
+        × Short (now fields) 8 × (length (now fields) ≡ 40) ⌝ }
+    ensures { λ r. ⌜ Replied (threeText (threeBy (now (fields .entry)) (now (room .entry))))
+        (now (room .entry)) r (now (room .exit)) ⌝ }
+{
+    let qp = qps_of(fields);
+    let lambda = lambdas_of(fields);
+    let costs = costs_from(fields, 9);
+    let mut answer = [0u64; 7];
+    let result = galemosu_sub_block(
+        room,
+        fields[0] as usize,
+        &qp,
+        &lambda,
+        fields[1] as u32,
+        fields[8] as u32,
+        &costs,
+        &mut answer,
+    );
+    reply_by(
+        result,
+        answer[0],
+        6,
+        [
+            answer[1],
+            answer[4],
+            answer[2],
+            answer[5],
+            answer[3],
+            answer[6],
+        ],
+    )
+}
+
+// The fields are those of the verb, in their order, each within its limit.
+pub fn call(verb: Verb, room: &mut [i16], fields: &[u64]) -> Reply
+    requires { ⌜ Limited (kindsOf verb) (now fields) × (length (now fields) ≡ 40) ⌝ }
+    ensures { λ r. ⌜ Replied (answered verb (take (length (kindsOf verb)) (now (fields .entry))) (now (room .entry)))
+        (now (room .entry)) r (now (room .exit)) ⌝ }
+{
+    match verb {
+        Verb::Transform => call_transform(room, fields),
+        Verb::Quantise => call_quantise(room, fields),
+        Verb::SubBlock => call_sub_block(room, fields),
     }
 }

@@ -9,6 +9,7 @@ use Rattle.refusals.proofs.Coincide.{number-tells, component-tells, coincide}
 use Rattle.coding.specs.declared.Coding.{Coding}
 use Rattle.coding.specs.declared.QuantAnswer.{QuantAnswer}
 use Rattle.coding.specs.declared.QuantAnswer.the-variants as answers
+use Rattle.price.specs.declared.Costs.{Costs}
 use Rattle.coding.specs.Block.{called}
 use Rattle.coding.specs.Call.{quantAnswer, quantBuffer, quantOutcome}
 
@@ -24,13 +25,13 @@ tells (answers.Refused w k) (answers.Refused x j) e =
     let g : k ≡ j = component-tells k j (cc) in
     cc
 
-module _ (block : List ℤ) (coding : Coding) where
+module _ (block : List ℤ) (costs : Costs) (coding : Coding) where
   pub quant-fixed : (r₁ r₂ : QuantAnswer) (b₁ b₂ : List ℤ)
-      → quantOutcome r₁ ≡ quantAnswer (called block coding)
-      → b₁ ≡ quantBuffer (called block coding)
-      → quantOutcome r₂ ≡ quantAnswer (called block coding)
-      → b₂ ≡ quantBuffer (called block coding)
+      → quantOutcome r₁ ≡ quantAnswer (called block costs coding)
+      → b₁ ≡ quantBuffer (called block costs coding)
+      → quantOutcome r₂ ≡ quantAnswer (called block costs coding)
+      → b₂ ≡ quantBuffer (called block costs coding)
       → (r₁ ≡ r₂) × (b₁ ≡ b₂)
   quant-fixed =
-      coincide quantOutcome tells (quantAnswer (called block coding))
-      (quantBuffer (called block coding))
+      coincide quantOutcome tells (quantAnswer (called block costs coding))
+      (quantBuffer (called block costs coding))

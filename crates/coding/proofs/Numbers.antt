@@ -45,13 +45,12 @@ flat n = tables (replicate 8 n) (replicate 8 n) (replicate 4 n) (replicate 8 n)
 -- a call by its inputs one by one, and document 01's, which walks
 abbrev pub asked : Mode → List ℤ → ℕ → Component → Settings → Bool → Bool → Costs → Quant
 asked mode block l k s intraSlice intraCoded t =
-    called block (record {
+    called block t (record {
       log2 = l;
       component = k;
       settings = s;
       «intra_slice» = intraSlice;
       «intra_coded» = intraCoded;
-      costs = t;
       mode = mode;
     })
 

@@ -19,6 +19,7 @@ use Rattle.scan.specs.Scan.{scan, scanAt}
 use Rattle.scan.proofs.OneToOne.{scan-inside}
 use Rattle.refusals.specs.Faults.{Outcome, accepted, refused, ifAccepted}
 use Rattle.refusals.proofs.First.{Alike, all, next, same-verdict}
+use Rattle.price.specs.declared.Costs.{Costs}
 use Rattle.price.specs.Level.{scaled, nearest, threshold}
 use Rattle.price.specs.Price.{nonzeros}
 use Rattle.coding.specs.declared.Coding.{Coding}
@@ -40,7 +41,7 @@ laid-front (p ∷ ps) (v ∷ vs) l r h =
     ap (laid ps vs) (set-append-left l r p v (h 0 (omega arith)))
     ∙ laid-front ps vs (set l p v) r (λ n lt. omega (arith, h (suc n) (omega arith), length-set l p v))
 
-module _ (B : List ℤ) (a : Coding) (room : 2 ^ a .log2 * 2 ^ a .log2 ≤ length B) where
+module _ (B : List ℤ) (t : Costs) (a : Coding) (room : 2 ^ a .log2 * 2 ^ a .log2 ≤ length B) where
   abbrev l : ℕ
   l = a .log2
 
@@ -48,10 +49,10 @@ module _ (B : List ℤ) (a : Coding) (room : 2 ^ a .log2 * 2 ^ a .log2 ≤ lengt
   n = 2 ^ l * 2 ^ l
 
   abbrev part : Quant
-  part = called (take n B) a
+  part = called (take n B) t a
 
   abbrev all-of : Quant
-  all-of = called B a
+  all-of = called B t a
 
   inside : (m : ℕ) → m < length (scan (2 ^ l) (2 ^ l)) → scanAt (2 ^ l) (2 ^ l) m < n
   inside m h = scan-inside (2 ^ l) (2 ^ l) (pow-pos l) (pow-pos l) m h

@@ -12,10 +12,10 @@ use Rattle.integers.specs.Tests.{some}
 use Rattle.scan.specs.Scan.{scan}
 use Rattle.tables.specs.Scales.{forward, scaleOf, errorScale}
 use Rattle.refusals.specs.declared.Component.{Component}
-use Rattle.price.specs.declared.Costs.{Costs}
 use Rattle.price.specs.declared.Settings.{Settings}
 use Rattle.price.specs.Lambda.{lambdaOf}
 use Rattle.price.specs.Level.{shiftOf, scaled, nearest, distortion, threshold, signed}
+use Rattle.price.specs.declared.Costs.{Costs}
 use Rattle.price.specs.Costs.{Rows, entry, rate}
 use Rattle.price.specs.Rule.{Rule}
 use Rattle.price.specs.Price.{nonzeros, price}
@@ -52,10 +52,10 @@ pub record Quant : Type 0 where
   pub mode : Mode
   pub fixed : Fixed
 
--- a call for square blocks
-unfoldable pub called : List ℤ → Coding → Quant
+-- a call for square blocks, by what it is lent and what it is asked
+unfoldable pub called : List ℤ → Costs → Coding → Quant
 unfolding document01
-called buffer c =
+called buffer t c =
     record {
       buffer = buffer;
       lw = c .log2;
@@ -64,7 +64,7 @@ called buffer c =
       settings = c .settings;
       intraSlice = c .«intra_slice»;
       intraCoded = c .«intra_coded»;
-      costs = c .costs;
+      costs = t;
       mode = c .mode;
       fixed = document01;
     }

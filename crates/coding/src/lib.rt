@@ -1,7 +1,6 @@
 // What becomes of the coefficients of a block: the inputs of the quantiser's call as one value, and in specs/ what the
 // call answers and leaves, as functions of them. proofs/ has what is promised of it. There is no function here:
 // `quantise` has the code, and its contracts are equations with these definitions.
-use price::Costs;
 use price::Settings;
 use refusals::Component;
 use refusals::Refusal;
@@ -12,15 +11,15 @@ pub enum Mode {
     Least,
 }
 
-// All inputs of a call but its buffer: log2 of the block's side, the component and its settings, whether the slice is
-// intra, whether the block is intra-coded, the cost tables, and which block is written.
+// All inputs of a call but what it is lent, which are its buffer and the cost tables: log2 of the block's side, the
+// component and its settings, whether the slice is intra, whether the block is intra-coded, and which block is
+// written.
 pub struct Coding {
     pub log2: usize,
     pub component: Component,
     pub settings: Settings,
     pub intra_slice: bool,
     pub intra_coded: bool,
-    pub costs: Costs,
     pub mode: Mode,
 }
 

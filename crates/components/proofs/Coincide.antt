@@ -9,6 +9,7 @@ use Rattle.refusals.proofs.Coincide.{number-tells, component-tells, coincide}
 use Rattle.components.specs.declared.Request.{Request}
 use Rattle.components.specs.declared.SubBlockAnswer.{SubBlockAnswer}
 use Rattle.components.specs.declared.SubBlockAnswer.the-variants as answers
+use Rattle.price.specs.declared.Costs.{Costs}
 use Rattle.components.specs.Call.{requested, subBlockAnswer, subBlockBuffer, subBlockOutcome}
 use Rattle.components.proofs.Answer.{coded-tells}
 
@@ -26,9 +27,9 @@ tells (answers.Refused w k) (answers.Refused x j) e =
     let g : k ≡ j = component-tells k j (cc) in
     cc
 
-pub sub-block-fixed : (buffer : List ℤ) (q : Request) (r₁ r₂ : SubBlockAnswer) (b₁ b₂ : List ℤ)
-    → subBlockOutcome r₁ ≡ subBlockAnswer (requested buffer q) → b₁ ≡ subBlockBuffer (requested buffer q)
-    → subBlockOutcome r₂ ≡ subBlockAnswer (requested buffer q) → b₂ ≡ subBlockBuffer (requested buffer q)
+pub sub-block-fixed : (buffer : List ℤ) (t : Costs) (q : Request) (r₁ r₂ : SubBlockAnswer) (b₁ b₂ : List ℤ)
+    → subBlockOutcome r₁ ≡ subBlockAnswer (requested buffer t q) → b₁ ≡ subBlockBuffer (requested buffer t q)
+    → subBlockOutcome r₂ ≡ subBlockAnswer (requested buffer t q) → b₂ ≡ subBlockBuffer (requested buffer t q)
     → (r₁ ≡ r₂) × (b₁ ≡ b₂)
-sub-block-fixed buffer q =
-    coincide subBlockOutcome tells (subBlockAnswer (requested buffer q)) (subBlockBuffer (requested buffer q))
+sub-block-fixed buffer t q =
+    coincide subBlockOutcome tells (subBlockAnswer (requested buffer t q)) (subBlockBuffer (requested buffer t q))

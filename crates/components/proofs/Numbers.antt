@@ -22,7 +22,7 @@ use Rattle.components.specs.Call.{subBlockBuffer}
 -- a call by its inputs one by one, and document 01's, which walks
 abbrev pub asked : Mode → List ℤ → ℕ → (y u v : Settings) → ℕ → Bool → Bool → Costs → SubBlock
 asked mode buffer l y u v run intraSlice intraCoded t =
-    requested buffer (record {
+    requested buffer t (record {
       «log2_luma» = l;
       y = y;
       u = u;
@@ -30,7 +30,6 @@ asked mode buffer l y u v run intraSlice intraCoded t =
       run = run;
       «intra_slice» = intraSlice;
       «intra_coded» = intraCoded;
-      costs = t;
       mode = mode;
     })
 

@@ -15,8 +15,8 @@ use Rattle.refusals.specs.Faults.{Fault, ofNone, outside, Outcome, accepted, re
 use Rattle.transform.specs.Coefficients.{coefficients}
 use Rattle.transform.specs.Call.{Trans}
 use Rattle.transform.specs.Call as trans
-use Rattle.price.specs.declared.Costs.{Costs}
 use Rattle.price.specs.declared.Settings.{Settings}
+use Rattle.price.specs.declared.Costs.{Costs}
 use Rattle.price.specs.Costs.{costRefused}
 use Rattle.coding.specs.declared.Mode.{Mode}
 use Rattle.coding.specs.declared.Coded.{Coded}
@@ -42,10 +42,10 @@ pub record SubBlock : Type 0 where
   pub mode : Mode
   pub fixed : Fixed
 
--- a call with one log2 side, by its request
-unfoldable pub requested : List ℤ → Request → SubBlock
+-- a call with one log2 side, by what it is lent and its request
+unfoldable pub requested : List ℤ → Costs → Request → SubBlock
 unfolding document01
-requested buffer q =
+requested buffer t q =
     record {
       buffer = buffer;
       lw = q .«log2_luma»;
@@ -56,7 +56,7 @@ requested buffer q =
       run = q .run;
       intraSlice = q .«intra_slice»;
       intraCoded = q .«intra_coded»;
-      costs = q .costs;
+      costs = t;
       mode = q .mode;
       fixed = document01;
     }

@@ -2,13 +2,13 @@
 // the buffer then holds, is said in specs/; what follows from it in proofs/. The code of the call is another crate's.
 use coding::Coded;
 use coding::Mode;
-use price::Costs;
 use price::Settings;
 use refusals::Component;
 use refusals::Refusal;
 
-// All inputs of a call but its buffer: log2 of luma's side, each component's settings, the run mask, whether the slice
-// is intra, whether the block is intra-coded, the cost tables, and which blocks are written.
+// All inputs of a call but what it is lent, which are its buffer and the cost tables: log2 of luma's side, each
+// component's settings, the run mask, whether the slice is intra, whether the block is intra-coded, and which blocks
+// are written.
 pub struct Request {
     pub log2_luma: usize,
     pub y: Settings,
@@ -17,7 +17,6 @@ pub struct Request {
     pub run: u32,
     pub intra_slice: bool,
     pub intra_coded: bool,
-    pub costs: Costs,
     pub mode: Mode,
 }
 

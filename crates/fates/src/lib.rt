@@ -4,12 +4,8 @@ use coefficients::skip::absolute;
 use scaling::scale::rounded;
 use scaling::scale::scale_of;
 ghost use mathlib.Core.Path.{_≡_};
-ghost use Prim.Native.Nat.{_≤_, _+_};
-ghost use lib.IntN.{natAbs};
-ghost use Rattle.tables.specs.Scales.{forward, scaleOf};
-ghost use Rattle.price.specs.Level.{shiftOf, scaled};
-ghost use Rattle.price.specs.Level.{nearest};
-ghost use Rattle.fates.specs.Fate.{fateOf, Most};
+ghost use Prim.Native.Nat.{_+_, _≤_};
+ghost use Rattle.fates.specs.Fate.{fateOf, fateAt, noneYet, counted, Most};
 
 // Nothing: a level of 0 where the magnitude is 0 already. Other: what the quantiser never does.
 pub enum Fate {
@@ -36,11 +32,12 @@ fn judged(m: u64, level: u64) -> Fate
     }
 }
 
-// Of a coefficient c of a block of side 8 at QP 34.
-pub fn became(c: i16, level: i16) -> Fate
-    ensures { λ r. ⌜ r ≡ fateOf (nearest (shiftOf 3 34) (scaled (scaleOf forward 34) c)) (natAbs level) ⌝ }
+// Of a coefficient c of a block of side 8.
+pub fn became(c: i16, level: i16, qp: u32) -> Fate
+    requires { ⌜ qp ≤ 63 ⌝ }
+    ensures { λ r. ⌜ r ≡ fateAt qp c level ⌝ }
 {
-    let m = rounded(scale_of(3, 34), absolute(c));
+    let m = rounded(scale_of(3, qp), absolute(c));
     judged(m, absolute(level) as u64)
 }
 
@@ -52,30 +49,36 @@ pub struct Tally {
     pub other: u64,
 }
 
-pub fn tallied(kept: u64, lowered: u64, dropped: u64, other: u64) -> Tally
-    ensures { λ r. ⌜ (r .kept ≡ kept) × (r .lowered ≡ lowered) × (r .dropped ≡ dropped) × (r .other ≡ other) ⌝ }
+// Nothing was counted yet.
+pub fn none() -> Tally
+    ensures { λ r. ⌜ r ≡ noneYet ⌝ }
 {
     Tally {
-        kept,
-        lowered,
-        dropped,
-        other,
-    }
-}
-
-pub fn one(fate: Fate) -> Tally
-    ensures { λ r. ⌜ Most 1 r ⌝ }
-{
-    match fate {
-        Fate::Nothing => tallied(0, 0, 0, 0),
-        Fate::Kept => tallied(1, 0, 0, 0),
-        Fate::Lowered => tallied(0, 1, 0, 0),
-        Fate::Dropped => tallied(0, 0, 1, 0),
-        Fate::Other => tallied(0, 0, 0, 1),
+        kept: 0,
+        lowered: 0,
+        dropped: 0,
+        other: 0,
     }
 }
 
 impl Tally {
+    // One fate more.
+    pub fn counting(self, fate: Fate) -> Tally
+        requires { ⌜ Most 4095 self ⌝ }
+        ensures { λ r. ⌜ r ≡ counted self fate ⌝ }
+    {
+        let mut t = self;
+        match fate {
+            Fate::Nothing => {}
+            Fate::Kept => t.kept += 1,
+            Fate::Lowered => t.lowered += 1,
+            Fate::Dropped => t.dropped += 1,
+            Fate::Other => t.other += 1,
+        }
+        t
+    }
+
+    // The fates of two blocks.
     pub fn with(self, more: Tally) -> Tally
         requires { ⌜ Most 4096 self × Most 4096 more ⌝ }
         ensures { λ r. ⌜ (r .kept ≡ self .kept + more .kept) × (r .lowered ≡ self .lowered + more .lowered)

@@ -1,95 +1,74 @@
--- What `next` hands out, from what its parts ensure: a line with its newline, a last line without one, and that a move
--- of what is left to the buffer's start does not matter.
+-- What `next` hands out, from what the search has found: a line that ends in what is left, or that none does, and then
+-- what is left is moved or goes.
+-- Assumes nothing.
 use Prim.Native.Nat.{ℕ, _+_, _-_, _≤_, _<_}
-use mathlib.Core.Path.{_≡_, refl, sym, ap, _∙_}
+use mathlib.Core.Path.{_≡_, refl, ap, _∙_}
+use mathlib.Core.Bool.{true, false}
 use mathlib.Core.List.{List}
-use mathlib.Core.Logic.{inl, inr}
+use mathlib.Core.Logic.{_⊎_, inl, inr}
 use native.Mathlib.Nat.{sub-zero}
 use native.Mathlib.Omega.{arith}
-use lib.ListN.{length, take, drop, getD}
-use lib.Seq.{getD-take, getD-drop}
+use lib.ListN.{length, take}
 use Rattle.input.specs.declared.Cursor.{Cursor}
-use Rattle.input.specs.declared.Line.{Line}
-use Rattle.input.specs.declared.Line.the-variants.{At, TooLong, End}
-use Rattle.input.specs.Lines.{part, NoNewline, FirstNewline, Reaches, Within, Stands, Handed, front}
+use Rattle.input.specs.Lines.{part, left, Free, Within, Ends, HandedOut, PassedOver, Asked}
+use Rattle.input.specs.Inner.Search.{FirstNewline}
+use Rattle.input.proofs.Parts.{part-length, free-part, part-split}
 
--- a line whose newline was found, in the buffer as it is
-pub found-here : (buf : List ℕ) (c : Cursor) (end : ℕ) → Within c buf → FirstNewline buf (c .from) (c .have) end
-    → end < c .have
-    → Stands buf c buf (c .from) end (record { from = end + 1; have = c .have })
-found-here buf c end w f h =
-    record {
-      order = f .after;
-      held = omega (arith, w .held);
-      short = omega (arith, w .held);
-      none = f .none;
-      kept = refl;
-      whole = omega (arith, w .order);
-      next = inl (f .found h, refl);
-      left = record { order = omega arith; held = w .held };
-    }
+module _ {buf : List ℕ} {c : Cursor} {end : ℕ} (w : Within c buf) (f : FirstNewline buf (c .from) (c .have) end) where
+  -- what is left behind a newline
+  abbrev behind : Cursor
+  behind = record { from = end + 1; have = c .have; passing = false }
 
-module _ (before after : List ℕ) (old end have : ℕ) (r : Reaches before old after end have) where
-  front-kept : take (old - 0) after ≡ take (old - 0) before
-  front-kept = rw (sub-zero old) (r .kept)
-
-  -- a line whose newline was read
-  pub found-read : end < have → Stands before (front old) after 0 end (record { from = end + 1; have = have })
-  found-read h =
+  ends : end < c .have → Ends buf c (part buf (c .from) end) buf behind
+  ends h =
       record {
-        order = omega arith;
-        held = omega (arith, r .held);
-        short = omega (arith, r .held);
-        none = r .first .none;
-        kept = front-kept;
-        whole = omega (arith, r .grown);
-        next = inl (r .first .found h, refl);
-        left = record { order = omega arith; held = r .held };
+        bytes = part-split buf (c .from) end (c .have) (f .after) h (w .held) (f .found h);
+        free = free-part buf (c .from) end (omega (arith, w .held)) (f .none);
+        within = record { order = omega arith; held = w .held };
+        fresh = refl;
       }
 
-  -- a last line without a newline, in a buffer that is not full
-  pub last-read : have ≤ end → have < length after
-      → Stands before (front old) after 0 end (record { from = end; have = have })
-  last-read h l =
+  pub handed-out : end < c .have → c .passing ≡ false → HandedOut buf c buf (c .from) end behind
+  handed-out h e =
       record {
-        order = omega arith;
-        held = omega (arith, r .first .within);
-        short = omega (arith, r .first .within);
-        none = r .first .none;
-        kept = front-kept;
-        whole = omega (arith, r .grown);
-        next = inr (refl, omega (arith, r .first .within));
-        left = record { order = r .first .within; held = r .held };
+        whole = e;
+        order = f .after;
+        held = omega (arith, w .held);
+        ends = ends h;
       }
 
--- what is left, moved to the front
-module _ (before moved : List ℕ) (c : Cursor) (order : c .from ≤ c .have)
-    (e : take (c .have - c .from) moved ≡ part before (c .from) (c .have))
-    (none : NoNewline before (c .from) (c .have)) where
-  -- has no newline there either
-  pub none-moved : NoNewline moved 0 (c .have - c .from)
-  none-moved k l _ t =
-      none (c .from + k) (omega arith) (omega arith)
-      (sym
-      (sym (getD-take (c .have - c .from) moved k 0 l)
-      ∙ ap (λ (x : List ℕ). getD x k 0) e
-      ∙ getD-take (c .have - c .from) (drop (c .from) before) k 0 l
-      ∙ getD-drop (c .from) before k 0)
-      ∙ t)
+  pub passed-over : end < c .have → c .passing ≡ true → PassedOver buf c buf behind
+  passed-over h e = record { long = e; line = part buf (c .from) end; ends = ends h }
 
-  -- and what is handed out from there is handed out from where it stood
-  pub handed-moved : (after : List ℕ) (line : Line) → Handed moved (front (c .have - c .from)) after line
-      → Handed before c after line
-  handed-moved after (At from end rest) s =
-      record {
-        order = s .order;
-        held = s .held;
-        short = s .short;
-        none = s .none;
-        kept = (rw (sub-zero (c .have - c .from)) at (s .kept)) ∙ e;
-        whole = omega (arith, s .whole);
-        next = s .next;
-        left = s .left;
-      }
-  handed-moved after (TooLong rest) s = (none, s .1)
-  handed-moved after End s = omega (arith, order, s)
+  module _ (h : c .have ≤ end) where
+    free-left : Free (left buf c)
+    free-left =
+        free-part buf (c .from) (c .have) (w .held) (λ k l. f .none k (omega arith))
+
+    -- the bytes of a line that is too long go
+    pub asked-long : (c .passing ≡ true) ⊎ (c .have - c .from ≡ length buf) → 0 < length buf
+        → Asked buf c buf (record { from = 0; have = 0; passing = true })
+    asked-long long some =
+        record {
+          free = free-left;
+          kept = inr (record { long = of long; passing = refl; bytes = refl });
+          within = record { order = omega arith; held = omega arith };
+          room = some;
+        }
+      where
+        of : (c .passing ≡ true) ⊎ (c .have - c .from ≡ length buf)
+            → (c .passing ≡ true) ⊎ (length (left buf c) ≡ length buf)
+        of (inl e) = inl e
+        of (inr e) = inr (part-length buf (c .from) (c .have) (w .held) ∙ e)
+
+    -- all others are moved to the front
+    pub asked-moved : (after : List ℕ) → length after ≡ length buf → c .passing ≡ false → c .have - c .from < length buf
+        → take (c .have - c .from) after ≡ left buf c
+        → Asked buf c after (record { from = 0; have = c .have - c .from; passing = false })
+    asked-moved after same e room moved =
+        record {
+          free = free-left;
+          kept = inl (record { whole = e; still = refl; bytes = rw (sub-zero (c .have - c .from)) moved });
+          within = record { order = omega arith; held = omega (arith, same) };
+          room = omega (arith, same);
+        }

@@ -1,4 +1,5 @@
+mod Arriving
 mod Handing
 mod Moved
-mod Reading
+mod Parts
 pub mod Told

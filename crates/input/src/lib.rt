@@ -1,16 +1,20 @@
-// Standard input line by line, over a buffer that the caller lends. A line is at most a byte shorter than the buffer; a
-// longer one is passed over. Proved is what becomes of bytes that stand in the buffer: a line begins with all that was
-// left there, and what is left behind it begins after its newline. What a read brings cannot be stated.
+// Standard input by lines, in a buffer that the caller lends. `next` finds lines in what stands there and reads
+// nothing, so that its contract accounts for every byte: a line is handed out, one that the buffer can't hold is passed
+// over and told, or more is asked for. `read` reads once, and tells more bytes, the end and a failure apart.
 use libc::STDIN_FILENO;
 ghost use mathlib.Core.Path.{_≡_};
+ghost use mathlib.Core.Bool.{false};
 ghost use Prim.Native.Nat.{_+_, _-_, _≤_, _<_};
 ghost use lib.ListN.{length, take};
-ghost use Rattle.input.specs.Lines.{part, NoNewline, FirstNewline, Reaches, Within, PassedOver, Handed, front};
+ghost use Rattle.input.specs.Lines.{part, Within, Handed, Brought, arrivalOf, tailOf};
+ghost use Rattle.input.specs.Inner.Search.{FirstNewline};
 
-// The bytes of the buffer from `from` up to `have` were read and not yet handed out.
+// The bytes of the buffer from `from` up to `have` were read and not yet handed out. While a line that is too long is
+// passed over, they belong to it.
 pub struct Cursor {
     pub from: usize,
     pub have: usize,
+    pub passing: bool,
 }
 
 pub enum Line {
@@ -20,17 +24,35 @@ pub enum Line {
         end: usize,
         rest: Cursor,
     },
-    // A line that the buffer could not hold. It is passed over.
+    // A line that the buffer could not hold has been passed over.
     TooLong(Cursor),
-    // The input has ended.
-    End,
+    // No line ends in what is left: more is to be read.
+    More(Cursor),
+}
+
+// What a read has brought.
+pub enum Arrival {
+    Came(Cursor),
+    Ended,
+    Failed,
+}
+
+// What stands behind the last newline, where the input has ended.
+pub enum Tail {
+    At { from: usize, end: usize },
+    TooLong,
+    Nothing,
 }
 
 // Nothing was read yet.
 pub fn start() -> Cursor
-    ensures { λ r. ⌜ (r .from ≡ 0) × (r .have ≡ 0) ⌝ }
+    ensures { λ r. ⌜ (r .from ≡ 0) × (r .have ≡ 0) × (r .passing ≡ false) ⌝ }
 {
-    Cursor { from: 0, have: 0 }
+    Cursor {
+        from: 0,
+        have: 0,
+        passing: false,
+    }
 }
 
 // The place of the first newline from `from` on, or `have` where there is none before it.
@@ -61,117 +83,89 @@ fn shift(buf: &mut [u8], from: usize, have: usize)
     }
 }
 
-// Reads once, to the places from `at` on, and answers how many bytes came: 0 at the end of the input. A read that fails
-// counts as the end.
-fn read_at(buf: &mut [u8], at: usize) -> usize
-    requires { ⌜ at ≤ length (now buf) ⌝ }
-    ensures { λ r. ⌜ (at + r ≤ length (now (buf .entry))) × (take at (now (buf .exit)) ≡ take at (now (buf .entry))) ⌝ }
-{
-    let got = libc::read(STDIN_FILENO, &mut buf[at..]);
-    io::count(got, &buf[at..])
-}
-
-// What `fill` leaves: the buffer's first `have` bytes, and the place of the first newline in them, or `have`.
-struct Filled {
-    end: usize,
-    have: usize,
-}
-
-// Reads behind the first `old` bytes, which hold no newline, until a newline comes, the buffer is full or the input
-// ends.
-fn fill(buf: &mut [u8], old: usize) -> Filled
-    requires { ⌜ (old ≤ length (now buf)) × NoNewline (now buf) 0 old ⌝ }
-    ensures { λ r. ⌜ Reaches (now (buf .entry)) old (now (buf .exit)) (r .end) (r .have) ⌝ }
-{
-    let mut have = old;
-    while have < buf.len() {
-        let more = read_at(buf, have);
-        if more == 0 {
-            return Filled { end: have, have };
-        }
-        let next = have + more;
-        let end = newline_in(buf, have, next);
-        if end < next {
-            return Filled { end, have: next };
-        }
-        have = next;
-    }
-    Filled { end: have, have }
-}
-
-// What is left of the input behind a line that is too long. The loop counts its turns down, from a number that no run
-// uses up: each turn but the last reads a byte or more.
-fn pass_over(buf: &mut [u8]) -> Cursor
-    ensures { λ r. ⌜ PassedOver r (now (buf .exit)) ⌝ }
-{
-    let mut turns = u64::MAX;
-    while turns > 0 {
-        turns -= 1;
-        let more = read_at(buf, 0);
-        let end = newline_in(buf, 0, more);
-        if end < more {
-            return Cursor {
-                from: end + 1,
-                have: more,
-            };
-        }
-        if more == 0 {
-            return start();
-        }
-    }
-    start()
-}
-
-// The next line, of which the buffer holds the first `old` bytes and no newline.
-fn read_line(buf: &mut [u8], old: usize) -> Line
-    requires { ⌜ (old ≤ length (now buf)) × NoNewline (now buf) 0 old ⌝ }
-    ensures { λ r. ⌜ Handed (now (buf .entry)) (front old) (now (buf .exit)) r ⌝ }
-{
-    let filled = fill(buf, old);
-    let end = filled.end;
-    let have = filled.have;
-    if end < have {
-        return Line::At {
-            from: 0,
-            end,
-            rest: Cursor {
-                from: end + 1,
-                have,
-            },
-        };
-    }
-    if have == 0 {
-        return Line::End;
-    }
-    if have == buf.len() {
-        return Line::TooLong(pass_over(buf));
-    }
-    Line::At {
-        from: 0,
-        end,
-        rest: Cursor { from: end, have },
-    }
-}
-
-// The next line. What is left is moved to the buffer's start only where it holds no newline: before a read, and not for
-// each line.
+// The next line of what is left. Where no line ends there, what is left is moved to the buffer's start, for more to be
+// read behind it; where it fills the buffer, the line is too long.
 pub fn next(buf: &mut [u8], c: Cursor) -> Line
-    requires { ⌜ Within c (now buf) ⌝ }
+    requires { ⌜ Within c (now buf) × (0 < length (now buf)) ⌝ }
     ensures { λ r. ⌜ Handed (now (buf .entry)) c (now (buf .exit)) r ⌝ }
 {
     let from = c.from;
     let have = c.have;
     let end = newline_in(buf, from, have);
     if end < have {
-        return Line::At {
-            from,
-            end,
-            rest: Cursor {
-                from: end + 1,
-                have,
-            },
+        let rest = Cursor {
+            from: end + 1,
+            have,
+            passing: false,
         };
+        if c.passing {
+            return Line::TooLong(rest);
+        }
+        return Line::At { from, end, rest };
+    }
+    let n = have - from;
+    if c.passing {
+        return Line::More(Cursor {
+            from: 0,
+            have: 0,
+            passing: true,
+        });
+    }
+    if n == buf.len() {
+        return Line::More(Cursor {
+            from: 0,
+            have: 0,
+            passing: true,
+        });
     }
     shift(buf, from, have);
-    read_line(buf, have - from)
+    Line::More(Cursor {
+        from: 0,
+        have: n,
+        passing: false,
+    })
+}
+
+// What a read's answer means, and the number n of bytes that it brought.
+fn meant(got: isize, n: usize, c: Cursor) -> Arrival
+    requires { ⌜ c .have + n ≤ 18446744073709551615 ⌝ }
+    ensures { λ r. ⌜ r ≡ arrivalOf got n c ⌝ }
+{
+    if got < 0 {
+        return Arrival::Failed;
+    }
+    if n == 0 {
+        return Arrival::Ended;
+    }
+    Arrival::Came(Cursor {
+        from: c.from,
+        have: c.have + n,
+        passing: c.passing,
+    })
+}
+
+// Reads once, behind what is left.
+pub fn read(buf: &mut [u8], c: Cursor) -> Arrival
+    requires { ⌜ Within c (now buf) × (c .have < length (now buf)) ⌝ }
+    ensures { λ r. ⌜ Brought (now (buf .entry)) c (now (buf .exit)) r ⌝ }
+{
+    let at = c.have;
+    let got = libc::read(STDIN_FILENO, &mut buf[at..]);
+    let n = io::count(got, &buf[at..]);
+    meant(got, n, c)
+}
+
+// What is left where the input has ended: a last line may lack its newline.
+pub fn last(c: Cursor) -> Tail
+    ensures { λ r. ⌜ r ≡ tailOf c ⌝ }
+{
+    let from = c.from;
+    let end = c.have;
+    if c.passing {
+        Tail::TooLong
+    } else if from == end {
+        Tail::Nothing
+    } else {
+        Tail::At { from, end }
+    }
 }

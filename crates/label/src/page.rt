@@ -1,14 +1,14 @@
-// The page: a row of the picture beside its levels, and how many were kept, lowered and dropped.
+// The page of a block as text: its part of the picture, and its levels by rows with their marks.
 use coefficients::skip::absolute;
 use fates::Fate;
 use fates::Tally;
 use fates::became;
-use fates::one;
-use fates::tallied;
-use libc::STDOUT_FILENO;
+use fates::none;
 use picture::place;
+ghost use mathlib.Core.Path.{_≡_};
 ghost use Prim.Native.Nat.{_≤_, _<_, _+_};
-ghost use Rattle.fates.specs.Fate.{Most};
+ghost use Rattle.fates.specs.Fate.{blockTally, Most};
+ghost use Rattle.label.specs.Page.{pictureByte, PictureText};
 
 fn mark(fate: Fate) -> u8 {
     match fate {
@@ -38,97 +38,72 @@ fn width(level: u32) -> usize
 }
 
 // A level right-aligned in six bytes from `at`.
-fn put_level(line: &mut [u8; 66], at: usize, level: i16)
-    requires { ⌜ at + 6 ≤ 66 ⌝ }
+fn put_level(text: &mut [u8; 456], at: usize, level: i16)
+    requires { ⌜ at + 6 ≤ 456 ⌝ }
 {
     let mut rest = absolute(level);
     let n = width(rest);
     let mut k = 0;
     while k < n {
-        line[at + 5 - k] = 48 + (rest % 10) as u8;
+        text[at + 5 - k] = 48 + (rest % 10) as u8;
         rest /= 10;
         k += 1;
     }
     if level < 0 {
-        line[at + 5 - n] = b'-';
+        text[at + 5 - n] = b'-';
     }
 }
 
-fn put_picture(line: &mut [u8; 66], picture: &[u8; 272], at: usize, y: usize)
-    requires { ⌜ (at < 4) × (y < 8) ⌝ }
+fn picture_byte(picture: &[u8; 272], at: usize, i: usize) -> u8
+    requires { ⌜ (at < 4) × (i < 72) ⌝ }
+    ensures { λ r. ⌜ r ≡ pictureByte (now (picture .entry)) at i ⌝ }
 {
-    let mut x = 0;
-    while x < 8 {
-        line[x] = picture[place(at, y, x)];
-        x += 1;
+    if i % 9 == 8 {
+        b'\n'
+    } else {
+        picture[place(at, i / 9, i % 9)]
     }
 }
 
-// Eight levels with their marks, behind the picture's eight bytes and a space.
-fn put_levels(line: &mut [u8; 66], y: usize, coefficients: &[i16; 64], levels: &[i16; 64]) -> Tally
-    requires { ⌜ y < 8 ⌝ }
-    ensures { λ r. ⌜ Most 8 r ⌝ }
-{
-    let mut t = tallied(0, 0, 0, 0);
-    let mut x = 0;
-    while x < 8 {
-        let i = y * 8 + x;
-        let f = became(coefficients[i], levels[i]);
-        put_level(line, 9 + 7 * x, levels[i]);
-        line[15 + 7 * x] = mark(f);
-        t = t.with(one(f));
-        x += 1;
-    }
-    t
-}
-
-fn show_line(line: &[u8; 66]) {
-    io::write_all(STDOUT_FILENO, line);
-}
-
-fn show_row(
-    picture: &[u8; 272],
-    at: usize,
-    y: usize,
-    coefficients: &[i16; 64],
-    levels: &[i16; 64],
-) -> Tally
-    requires { ⌜ (at < 4) × (y < 8) ⌝ }
-    ensures { λ r. ⌜ Most 8 r ⌝ }
-{
-    let mut line = [b' '; 66];
-    put_picture(&mut line, picture, at, y);
-    let t = put_levels(&mut line, y, coefficients, levels);
-    line[65] = b'\n';
-    show_line(&line);
-    t
-}
-
-pub fn show_levels(
-    picture: &[u8; 272],
-    at: usize,
-    coefficients: &[i16; 64],
-    levels: &[i16; 64],
-) -> Tally
+// The eight rows of a block of the picture, each ended by a newline.
+pub fn picture_text(picture: &[u8; 272], at: usize) -> [u8; 72]
     requires { ⌜ at < 4 ⌝ }
-    ensures { λ r. ⌜ Most 64 r ⌝ }
+    ensures { λ r. ⌜ PictureText (now (picture .entry)) at r ⌝ }
 {
-    let mut t = tallied(0, 0, 0, 0);
-    let mut y = 0;
-    while y < 8 {
-        t = t.with(show_row(picture, at, y, coefficients, levels));
-        y += 1;
+    let mut text = [0u8; 72];
+    let mut i = 0;
+    while i < 72 {
+        text[i] = picture_byte(picture, at, i);
+        i += 1;
     }
-    t
+    text
 }
 
-pub fn show_tally(t: Tally) {
-    io::write_all(STDOUT_FILENO, b"kept ");
-    io::print_decimal(STDOUT_FILENO, t.kept);
-    io::write_all(STDOUT_FILENO, b", lowered ");
-    io::print_decimal(STDOUT_FILENO, t.lowered);
-    io::write_all(STDOUT_FILENO, b", dropped ");
-    io::print_decimal(STDOUT_FILENO, t.dropped);
-    io::write_all(STDOUT_FILENO, b", other ");
-    io::print_decimal(STDOUT_FILENO, t.other);
+// What stands behind the i-th level and its mark: the row ends, or the next level begins.
+fn behind(i: usize) -> u8 {
+    if i % 8 == 7 { b'\n' } else { b' ' }
+}
+
+// Eight rows of eight levels, each in six bytes with its mark behind it.
+pub fn put_levels(
+    text: &mut [u8; 456],
+    coefficients: &[i16; 64],
+    levels: &[i16; 64],
+    qp: u32,
+) -> Tally
+    requires { ⌜ qp ≤ 63 ⌝ }
+    ensures { λ r. ⌜ (r ≡ blockTally qp (now (coefficients .entry)) (now (levels .entry))) × Most 64 r ⌝ }
+{
+    let mut t = none();
+    let mut i = 0;
+    while i < 64 {
+        let at = i / 8 * 57 + i % 8 * 7;
+        let f = became(coefficients[i], levels[i], qp);
+        put_level(text, at, levels[i]);
+        text[at + 6] = mark(f);
+        text[at + 7] = behind(i);
+        t = t.counting(f);
+        i += 1;
+    }
+    t
 }

@@ -6,9 +6,9 @@ use mathlib.Core.List.{List, [], _∷_}
 use Prim.Native.Nat.{ℕ, _+_, _*_}
 use lib.IntN.{pos, negsuc}
 use lib.Ieee.{nan, inf, fin}
-use Rattle.price.specs.declared.Costs.{Costs}
 use Rattle.price.specs.Lambda.{lambdaRefused, lambdaOf}
 use Rattle.price.specs.Level.{shiftOf, scaled, nearest, error, distortion, threshold}
+use Rattle.price.specs.declared.Costs.{Costs}
 use Rattle.price.specs.Costs.{costRefused, Rows, rate}
 
 -- ---- lambda's whole number: of 0, -0, 1/1024, 1/64, 1/32768 and 8192

@@ -1,12 +1,25 @@
 -- The cost tables: which are refused with 4, and the rate of a magnitude by the rows of its component.
 -- The sign's price and the rows are arguments: document 01 has 32768 for the one, and the same rows for Cb and Cr.
 use mathlib.Core.Bool.{Bool, cond, _||_}
-use mathlib.Core.List.{List}
+use mathlib.Core.List.{List, [], _∷_}
 use Prim.Native.Nat.{ℕ, zero, suc, _+_, _*_, _≤_}
 use lib.Dec.{ltb}
 use lib.ListN.{getD}
 use Rattle.integers.specs.Tests.{some}
 use Rattle.price.specs.declared.Costs.{Costs}
+
+-- four and eight numbers from the i-th on
+abbrev pub fourAt : ℕ → List ℕ → List ℕ
+fourAt i l = getD l i 0 ∷ getD l (i + 1) 0 ∷ getD l (i + 2) 0 ∷ getD l (i + 3) 0 ∷ []
+
+abbrev pub eightAt : ℕ → List ℕ → List ℕ
+eightAt i l =
+    getD l i 0 ∷ getD l (i + 1) 0 ∷ getD l (i + 2) 0 ∷ getD l (i + 3) 0
+    ∷ getD l (i + 4) 0 ∷ getD l (i + 5) 0 ∷ getD l (i + 6) 0 ∷ getD l (i + 7) 0 ∷ []
+
+-- the tables in the 28 numbers of a call, one behind the other: run 8, level 8, last 4, cbf 8
+unfoldable pub costsOf : List ℕ → Costs
+costsOf l = record { run = eightAt 0 l; level = eightAt 8 l; last = fourAt 16 l; cbf = eightAt 20 l }
 
 -- more than a cost may be
 abbrev pub dear : ℕ → Bool

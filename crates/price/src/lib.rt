@@ -3,9 +3,11 @@
 // the cost tables are refused, and the whole number of an accepted lambda.
 ghost use mathlib.Core.Path.{_≡_};
 ghost use mathlib.Core.Bool.{false};
+ghost use Prim.Native.Nat.{_+_, _≤_};
+ghost use lib.ListN.{length};
 ghost use Rattle.integers.specs.Tests.{some};
 ghost use Rattle.price.specs.Lambda.{lambdaRefused, lambdaSum, LambdaWhole};
-ghost use Rattle.price.specs.Costs.{dear, costRefused};
+ghost use Rattle.price.specs.Costs.{dear, fourAt, eightAt, costsOf, costRefused};
 
 // The cost tables, flat: pair k of a table stands at 2k and 2k+1. 4 run pairs, 4 level pairs, 2 last pairs, and 4 cbf
 // pairs: all, luma, cb, cr.
@@ -50,7 +52,7 @@ pub fn lambda_whole(d: f64) -> u64
     std::num::truncating_f64_to_u64(lambda_sum(d))
 }
 
-// Whether some entry of a table is above the most that a cost may be. A loop with one way out is made into vector code.
+// Whether some entry is above the most that a cost may be. A loop with one way out is made into vector code.
 fn some_dear(table: &[u64]) -> bool
     ensures { λ r. ⌜ r ≡ some dear (now (table .entry)) ⌝ }
 {
@@ -65,17 +67,45 @@ fn some_dear(table: &[u64]) -> bool
     found
 }
 
-// 4 COST. All tables are looked at before the one answer, so that no branch is taken in between.
-pub fn costs_refused(t: Costs) -> bool
-    ensures { λ r. ⌜ r ≡ costRefused t ⌝ }
+// 4 COST. The tables are lent as 28 numbers, and looked at where they stand: nothing is copied for a block that is
+// refused or skipped.
+pub fn costs_refused(costs: &[u64; 28]) -> bool
+    ensures { λ r. ⌜ r ≡ costRefused (costsOf (now (costs .entry))) ⌝ }
 {
-    let run = t.run;
-    let level = t.level;
-    let last = t.last;
-    let cbf = t.cbf;
-    let a = some_dear(&run);
-    let b = some_dear(&level);
-    let c = some_dear(&last);
-    let d = some_dear(&cbf);
-    a || b || c || d
+    some_dear(costs)
+}
+
+fn four(numbers: &[u64], i: usize) -> [u64; 4]
+    requires { ⌜ i + 4 ≤ length (now numbers) ⌝ }
+    ensures { λ r. ⌜ r ≡ fourAt i (now (numbers .entry)) ⌝ }
+{
+    [numbers[i], numbers[i + 1], numbers[i + 2], numbers[i + 3]]
+}
+
+fn eight(numbers: &[u64], i: usize) -> [u64; 8]
+    requires { ⌜ i + 8 ≤ length (now numbers) ⌝ }
+    ensures { λ r. ⌜ r ≡ eightAt i (now (numbers .entry)) ⌝ }
+{
+    [
+        numbers[i],
+        numbers[i + 1],
+        numbers[i + 2],
+        numbers[i + 3],
+        numbers[i + 4],
+        numbers[i + 5],
+        numbers[i + 6],
+        numbers[i + 7],
+    ]
+}
+
+// The tables of the 28 numbers, one behind the other.
+pub fn costs_of(numbers: &[u64; 28]) -> Costs
+    ensures { λ r. ⌜ r ≡ costsOf (now (numbers .entry)) ⌝ }
+{
+    Costs {
+        run: eight(numbers, 0),
+        level: eight(numbers, 8),
+        last: four(numbers, 16),
+        cbf: eight(numbers, 20),
+    }
 }

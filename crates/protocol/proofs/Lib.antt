@@ -1,1 +1,1 @@
-mod Spaced
+mod Retold

@@ -1,43 +1,24 @@
 // The line protocol: one request line, one answer line, over slices. A line that is no request is answered by
-// `malformed`.
-use crate::reply::Reply;
-use crate::reply::of_quantise;
-use crate::reply::of_sub_block;
-use crate::reply::of_transform;
-use crate::reply::put_malformed;
-use crate::reply::put_reply;
-use calls::coding_of;
-use calls::request_of;
-use quantise::quant_nnz;
+// `malformed`. Each answer is the definition's, byte for byte (specs/Answer.antt).
+use calls::call;
+use replies::put_malformed;
+use replies::put_reply;
 use requests::request::Count;
 use requests::request::Place;
 use requests::request::read_count;
 use requests::request::read_head;
 use requests::request::read_samples;
 use requests::words::word_end;
-use subblock::sub_block_tq;
-use transform::trans;
 use verbs::Named;
 use verbs::Verb;
 use verbs::read_verb;
 ghost use mathlib.Core.Path.{_≡_};
 ghost use Prim.Native.Nat.{_≤_};
-ghost use lib.ListN.{length};
-ghost use Rattle.requests.specs.Request.{kindsOf, Limited};
-
-mod reply;
-
-// What a call answers. `read_head` says what stands where in the fields.
-fn call(verb: Verb, room: &mut [i16], fields: &[u64; 40]) -> Reply
-    requires { ⌜ Limited (kindsOf verb) (now fields) ⌝ }
-    ensures { λ r. ⌜ r .count ≤ 6 ⌝ }
-{
-    match verb {
-        Verb::Transform => { of_transform(trans(room, fields[0] as usize, fields[1] as usize)) }
-        Verb::Quantise(mode) => of_quantise(quant_nnz(room, coding_of(fields, mode))),
-        Verb::SubBlock(mode) => of_sub_block(sub_block_tq(room, request_of(fields, mode))),
-    }
-}
+ghost use lib.ListN.{length, take};
+ghost use Rattle.replies.specs.Reply.{Written};
+ghost use Rattle.requests.specs.Request.{kindsOf, Limited, behindVerb, withSamples, exactlyOf};
+ghost use Rattle.requests.specs.Inner.Cursors.{wordsFrom};
+ghost use Rattle.protocol.specs.Answer.{answerOf, answerTo};
 
 // The samples are read into the room, and the call leaves its own there.
 fn answer_call(
@@ -49,19 +30,23 @@ fn answer_call(
     out: &mut [u8; 65536],
 ) -> usize
     requires { ⌜ (length (now room) ≤ 8192) × Limited (kindsOf verb) (now fields) ⌝ }
-    ensures { λ r. ⌜ (1 ≤ r) × (r ≤ 65535) ⌝ }
+    ensures { λ r. ⌜ Written
+        (answerOf (withSamples verb (take (length (kindsOf verb)) (now (fields .entry)))
+        (exactlyOf (length (now (room .entry))) (wordsFrom (now (line .entry)) at))))
+        (now (out .entry)) (now (out .exit)) r ⌝ }
 {
-    if !read_samples(line, at, room) {
-        return put_malformed(out);
+    if read_samples(line, at, room) {
+        let reply = call(verb, room, fields);
+        return put_reply(out, reply, room);
     }
-    let reply = call(verb, room, fields);
-    put_reply(out, reply, room)
+    put_malformed(out)
 }
 
 // The fields, the number of samples, and then the call.
 fn answer_verb(verb: Verb, room: &mut [i16], line: &[u8], at: usize, out: &mut [u8; 65536]) -> usize
     requires { ⌜ length (now room) ≡ 8192 ⌝ }
-    ensures { λ r. ⌜ (1 ≤ r) × (r ≤ 65535) ⌝ }
+    ensures { λ r. ⌜ Written (answerOf (behindVerb verb (wordsFrom (now (line .entry)) at)))
+        (now (out .entry)) (now (out .exit)) r ⌝ }
 {
     let mut fields = [0u64; 40];
     let Place::At(count) = read_head(verb, line, at, &mut fields) else {
@@ -76,7 +61,7 @@ fn answer_verb(verb: Verb, room: &mut [i16], line: &[u8], at: usize, out: &mut [
 // In a room for the most samples that a line can have.
 fn answer_in(room: &mut [i16], line: &[u8], out: &mut [u8; 65536]) -> usize
     requires { ⌜ length (now room) ≡ 8192 ⌝ }
-    ensures { λ r. ⌜ (1 ≤ r) × (r ≤ 65535) ⌝ }
+    ensures { λ r. ⌜ Written (answerTo (now (line .entry))) (now (out .entry)) (now (out .exit)) r ⌝ }
 {
     if 65535 < line.len() {
         return put_malformed(out);
@@ -91,7 +76,7 @@ fn answer_in(room: &mut [i16], line: &[u8], out: &mut [u8; 65536]) -> usize
 // The answer to a line, at the start of `out`, and its length. Neither line has its newline; there is room behind the
 // answer for one.
 pub fn answer(line: &[u8], out: &mut [u8; 65536]) -> usize
-    ensures { λ r. ⌜ (1 ≤ r) × (r ≤ 65535) ⌝ }
+    ensures { λ r. ⌜ Written (answerTo (now (line .entry))) (now (out .entry)) (now (out .exit)) r ⌝ }
 {
     let mut room = [0i16; 8192];
     answer_in(&mut room, line, out)

@@ -9,8 +9,8 @@ use native.Mathlib.Nat.{mul-le-mul, mul-le-mul-left, mul-le-mul-right, mul-assoc
 use lib.IntN.{ℤ, natAbs}
 use Rattle.integers.specs.Sum.{at, over, onMax}
 use Rattle.integers.proofs.Order.{below-or-not}
-use Rattle.price.specs.declared.Costs.{Costs}
 use Rattle.price.specs.Level.{scaled, nearest}
+use Rattle.price.specs.declared.Costs.{Costs}
 use Rattle.price.specs.Costs.{InRange, Rows, entry}
 use Rattle.scaling.specs.declared.scale.Scale.{Scale}
 use Rattle.weights.specs.declared.prices.Prices.{Prices}

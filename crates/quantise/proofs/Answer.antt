@@ -23,10 +23,10 @@ use Rattle.refusals.specs.Numbers.{numberOf, componentOf}
 use Rattle.refusals.specs.Sides.{mostLog2}
 use Rattle.refusals.specs.Faults.{Fault, refused, outside}
 use Rattle.refusals.proofs.First.{First, later, None, end, but, refused-with-the-first, accepted-without-a-fault}
-use Rattle.price.specs.declared.Costs.{Costs}
 use Rattle.price.specs.declared.Settings.{Settings}
 use Rattle.price.specs.Lambda.{lambdaRefused}
 use Rattle.price.specs.Level.{shiftOf, scaled, nearest, distortion, threshold, signed}
+use Rattle.price.specs.declared.Costs.{Costs}
 use Rattle.price.specs.Costs.{Rows, costRefused, rate}
 use Rattle.price.specs.Rule.{Rule}
 use Rattle.price.specs.Price.{uncoded, nonzeros, price}
@@ -93,9 +93,9 @@ made b e rate p =
       last = p .last;
     }
 
-module _ (B : List ℤ) (a : Coding) where
+module _ (B : List ℤ) (t : Costs) (a : Coding) where
   abbrev pub call : Quant
-  call = called B a
+  call = called B t a
 
   -- its inputs by short names
   abbrev l : ℕ
@@ -103,9 +103,6 @@ module _ (B : List ℤ) (a : Coding) where
 
   abbrev s : Settings
   s = a .settings
-
-  abbrev t : Costs
-  t = a .costs
 
   abbrev intra : Bool
   intra = a .«intra_slice»
@@ -151,7 +148,7 @@ module _ (B : List ℤ) (a : Coding) where
   length-right h = le-ltb (length B) (2 ^ l * 2 ^ l) h
 
   -- ---- a block that has its own buffer
-  module _ (early : EarlyPassed B a) where
+  module _ (early : EarlyPassed B t a) where
     abbrev side : ℕ
     side = 2 ^ l
 

@@ -9,6 +9,7 @@ use coefficients::skip::is_walked;
 use coefficients::skip::largest;
 use contexts::contexts_of;
 use contexts::prices_of;
+use price::costs_of;
 use price::costs_refused;
 use price::lambda_refused;
 use price::lambda_whole;
@@ -20,16 +21,19 @@ use scaling::scale::rounded;
 use scaling::scale::scale_of;
 use scaling::scale::skip_threshold;
 ghost use mathlib.Core.Path.{_≡_};
+ghost use Rattle.price.specs.Costs.{costsOf};
 ghost use Rattle.coding.specs.Block.{called};
 ghost use Rattle.coding.specs.Call.{quantOutcome, quantAnswer, quantBuffer};
 ghost use Rattle.quantise.specs.Inner.Early.{EarlyPassed};
 
 // A block that has its own part of the buffer, where refusals 1 to 5 are past. A coefficient of -32768 is never
 // skipped.
-fn code_block(block: &mut [i16], coding: Coding) -> QuantAnswer
-    requires { ⌜ EarlyPassed (now block) coding ⌝ }
-    ensures answer { λ r. ⌜ quantOutcome r ≡ quantAnswer (called (now (block .entry)) coding) ⌝ }
-    ensures buffer { λ _. ⌜ now (block .exit) ≡ quantBuffer (called (now (block .entry)) coding) ⌝ }
+fn code_block(block: &mut [i16], costs: &[u64; 28], coding: Coding) -> QuantAnswer
+    requires { ⌜ EarlyPassed (now block) (costsOf (now costs)) coding ⌝ }
+    ensures answer { λ r. ⌜ quantOutcome r
+        ≡ quantAnswer (called (now (block .entry)) (costsOf (now (costs .entry))) coding) ⌝ }
+    ensures buffer { λ _. ⌜ now (block .exit)
+        ≡ quantBuffer (called (now (block .entry)) (costsOf (now (costs .entry))) coding) ⌝ }
 {
     let component = coding.component;
     let settings = coding.settings;
@@ -55,16 +59,18 @@ fn code_block(block: &mut [i16], coding: Coding) -> QuantAnswer
     if 1152921504606846976 < d {
         return QuantAnswer::Refused(Refusal::Distortion, component);
     }
-    let costs = coding.costs;
-    let p = prices_of(costs, contexts_of(component, coding.intra_coded), lambda);
+    let at = contexts_of(component, coding.intra_coded);
+    let p = prices_of(costs_of(costs), at, lambda);
     let mode = coding.mode;
     QuantAnswer::Coded(code_levels(block, coding.log2, p, g, d, mode))
 }
 
 // evce_quant_nnz for a square block: the levels in place of the coefficients, their count and their price.
-pub fn quant_nnz(block: &mut [i16], coding: Coding) -> QuantAnswer
-    ensures answer { λ r. ⌜ quantOutcome r ≡ quantAnswer (called (now (block .entry)) coding) ⌝ }
-    ensures buffer { λ _. ⌜ now (block .exit) ≡ quantBuffer (called (now (block .entry)) coding) ⌝ }
+pub fn quant_nnz(block: &mut [i16], costs: &[u64; 28], coding: Coding) -> QuantAnswer
+    ensures answer { λ r. ⌜ quantOutcome r
+        ≡ quantAnswer (called (now (block .entry)) (costsOf (now (costs .entry))) coding) ⌝ }
+    ensures buffer { λ _. ⌜ now (block .exit)
+        ≡ quantBuffer (called (now (block .entry)) (costsOf (now (costs .entry))) coding) ⌝ }
 {
     if no_side(coding.log2) {
         return QuantAnswer::Refused(Refusal::Side, Component::Y);
@@ -77,7 +83,6 @@ pub fn quant_nnz(block: &mut [i16], coding: Coding) -> QuantAnswer
     if lambda_refused(settings.lambda) {
         return QuantAnswer::Refused(Refusal::Lambda, component);
     }
-    let costs = coding.costs;
     if costs_refused(costs) {
         return QuantAnswer::Refused(Refusal::Cost, Component::Y);
     }
@@ -86,5 +91,5 @@ pub fn quant_nnz(block: &mut [i16], coding: Coding) -> QuantAnswer
     if block.len() < n {
         return QuantAnswer::Refused(Refusal::Length, Component::Y);
     }
-    code_block(&mut block[..n], coding)
+    code_block(&mut block[..n], costs, coding)
 }

@@ -1,3 +1,6 @@
-pub mod Fields
-pub mod Samples
-pub mod Spaces
+pub mod Asked
+mod Counts
+mod Examples
+mod Fields
+mod Samples
+mod Spaces

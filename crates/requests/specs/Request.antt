@@ -1,24 +1,44 @@
--- A request behind its verb: its fields before the samples, each by its kind, which is a letter: a component (`c`, 99),
--- a number of 32 bits (`i`, 105), the bits of an f64 (`x`, 120), and any number of 64 bits (`w`, 119).
-use mathlib.Core.Path.{_≡_}
+-- A request, read from a whole line of at most 65,535 bytes: the word of a verb, the verb's fields, N, and N samples.
 use mathlib.Core.Bool.{cond}
 use mathlib.Core.List.{List, [], _∷_}
+use mathlib.Core.Option.{Option, none, some}
 use Prim.Native.Nat.{ℕ, _≤_, _<_}
-use lib.Dec.{eqb}
-use lib.IntN.{ℤ, pos}
+use lib.Dec.{ltb, eqb}
+use lib.IntN.{ℤ}
 use lib.ListN.{length, getD, replicate}
 use Rattle.numerals.specs.declared.number.Natural.{Natural}
+use Rattle.numerals.specs.declared.number.Natural.the-variants as naturals
+use Rattle.numerals.specs.declared.number.Sample.{Sample}
 use Rattle.numerals.specs.declared.number.Sample.the-variants as samples
 use Rattle.verbs.specs.declared.Verb.{Verb}
 use Rattle.verbs.specs.declared.Verb.the-variants.{Transform, Quantise, SubBlock}
-use Rattle.requests.specs.declared.request.Count.{Count}
-use Rattle.requests.specs.declared.request.Count.the-variants.{Of}
-use Rattle.requests.specs.declared.request.Place.{Place}
-use Rattle.requests.specs.declared.request.Place.the-variants.{At}
+use Rattle.verbs.specs.declared.Named.{Named}
+use Rattle.verbs.specs.declared.Named.the-variants as names
 use Rattle.numerals.specs.Number.{naturalUpTo, sampleOf, bitsOf}
-use Rattle.requests.specs.Words.{wordFrom, placeOf}
+use Rattle.verbs.specs.Verbs.{verbOf}
+use Rattle.requests.specs.Words.{wordsOf}
 
--- ---- fields
+-- ---- nothing where a part is nothing, so that `do` reads one part after the other
+infixl 1 _>>=_
+abbrev pub _>>=_ : {A B : Type 0} → Option A → (A → Option B) → Option B
+_>>=_ none f = none
+_>>=_ (some a) f = f a
+
+-- what is read of a word is nothing where it is malformed
+abbrev pub number : Natural → Option ℕ
+number (naturals.Is n) = some n
+number naturals.Malformed = none
+
+abbrev pub sample : Sample → Option ℤ
+sample (samples.Is x) = some x
+sample samples.Malformed = none
+
+abbrev pub named : Named → Option Verb
+named (names.Is v) = some v
+named names.Malformed = none
+
+-- ---- fields, each by its kind, which is a letter: a component (`c`, 99), a number of 32 bits (`i`, 105), the bits of
+-- an f64 (`x`, 120), and any number of 64 bits (`w`, 119)
 -- the most that a field of a kind can be
 abbrev pub limitOf : ℕ → ℕ
 limitOf kind = cond (eqb kind 99) 2 (cond (eqb kind 105) 4294967295 18446744073709551615)
@@ -31,26 +51,91 @@ fieldOf kind w = cond (eqb kind 120) (bitsOf w) (naturalUpTo (limitOf kind) w)
 abbrev pub costKinds : List ℕ
 costKinds = replicate 28 119
 
--- the fields of each verb, up to the number of samples; they are the same in both modes
+-- the fields of each verb, up to the number of samples:
+--   transform: LOG2W LOG2H
+--   quantise: COMPONENT LOG2 QP LAMBDA FLAGS, COSTS
+--   subblock: LOG2 RUN QPY LAMBDAY QPU LAMBDAU QPV LAMBDAV FLAGS, COSTS
 abbrev pub kindsOf : Verb → List ℕ
 kindsOf Transform = 119 ∷ 119 ∷ []
-kindsOf (Quantise m) = 99 ∷ 119 ∷ 105 ∷ 120 ∷ 105 ∷ 105 ∷ costKinds
-kindsOf (SubBlock m) = 119 ∷ 105 ∷ 105 ∷ 120 ∷ 105 ∷ 120 ∷ 105 ∷ 120 ∷ 105 ∷ 105 ∷ costKinds
+kindsOf Quantise = 99 ∷ 119 ∷ 105 ∷ 120 ∷ 105 ∷ costKinds
+kindsOf SubBlock = 119 ∷ 105 ∷ 105 ∷ 120 ∷ 105 ∷ 120 ∷ 105 ∷ 120 ∷ 105 ∷ costKinds
+
+-- a number for each kind, from the words at the front, and the words behind them
+unfoldable pub fieldsOf : List ℕ → List (List ℕ) → Option (List ℕ × List (List ℕ))
+unfolding fieldOf
+fieldsOf [] words = some ([], words)
+fieldsOf (k ∷ kinds) [] = none
+fieldsOf (k ∷ kinds) (w ∷ words) = do
+  n ← number (fieldOf k w)
+  (fields, behind) ← fieldsOf kinds words
+  some (n ∷ fields, behind)
 
 -- no field is above its limit
 abbrev pub Limited : List ℕ → List ℕ → Type 0
 Limited kinds fields = (k : ℕ) → k < length kinds → getD fields k 0 ≤ limitOf (getD kinds k 0)
 
--- where all were read
-abbrev pub Within : Place → List ℕ → List ℕ → Type 0
-Within r kinds fields = (next : ℕ) → r ≡ At next → Limited kinds fields
-
 -- ---- samples
-abbrev pub FewSamples : Count → Type 0
-FewSamples r = (n next : ℕ) → r ≡ Of n next → n ≤ 8192
+-- N, and the words behind it
+unfoldable pub countOf : List (List ℕ) → Option (ℕ × List (List ℕ))
+unfolding naturalUpTo
+countOf [] = none
+countOf (w ∷ words) = do
+  n ← number (naturalUpTo 8192 w)
+  some (n, words)
 
--- each sample of the room is the word at its place, and no word is left behind the last
-pub record Samples (line : List ℕ) (from : ℕ) (room : List ℤ) : Type 0 where
-  pub each : (k : ℕ) → k < length room
-      → sampleOf (wordFrom line (placeOf line from k)) ≡ samples.Is (getD room k (pos 0))
-  pub ended : length line < placeOf line from (length room)
+-- all words
+unfoldable pub samplesOf : List (List ℕ) → Option (List ℤ)
+unfolding sampleOf
+samplesOf [] = some []
+samplesOf (w ∷ words) = do
+  x ← sample (sampleOf w)
+  xs ← samplesOf words
+  some (x ∷ xs)
+
+-- so many, and no other number of them
+abbrev pub exactly : ℕ → List ℤ → Option (List ℤ)
+exactly n xs = cond (eqb (length xs) n) (some xs) none
+
+unfoldable pub exactlyOf : ℕ → List (List ℕ) → Option (List ℤ)
+unfolding samplesOf
+exactlyOf n words = do
+  xs ← samplesOf words
+  exactly n xs
+
+-- ---- the request
+pub record Request : Type 0 where
+  pub verb : Verb
+  pub fields : List ℕ
+  pub samples : List ℤ
+
+-- with these samples, where there are such
+unfoldable pub withSamples : Verb → List ℕ → Option (List ℤ) → Option Request
+withSamples verb fields samples = do
+  xs ← samples
+  some (record { verb = verb; fields = fields; samples = xs })
+
+-- behind the fields
+unfoldable pub behindFields : Verb → List ℕ → List (List ℕ) → Option Request
+unfolding countOf exactlyOf withSamples
+behindFields verb fields words = do
+  (n, behind) ← countOf words
+  withSamples verb fields (exactlyOf n behind)
+
+-- behind the verb
+unfoldable pub behindVerb : Verb → List (List ℕ) → Option Request
+unfolding fieldsOf behindFields
+behindVerb verb words = do
+  (fields, behind) ← fieldsOf (kindsOf verb) words
+  behindFields verb fields behind
+
+unfoldable pub requestOf : List (List ℕ) → Option Request
+unfolding verbOf behindVerb
+requestOf [] = none
+requestOf (w ∷ words) = do
+  verb ← named (verbOf w)
+  behindVerb verb words
+
+-- what a line asks for
+unfoldable pub asked : List ℕ → Option Request
+unfolding wordsOf requestOf
+asked line = cond (ltb 65535 (length line)) none (requestOf (wordsOf line))

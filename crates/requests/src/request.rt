@@ -6,11 +6,13 @@ use numerals::number::read_bits;
 use numerals::number::read_natural;
 use numerals::number::read_sample;
 use verbs::Verb;
-ghost use mathlib.Core.Bool.{true};
+ghost use mathlib.Core.Bool.{cond};
+ghost use mathlib.Core.Option.{none, some};
 ghost use mathlib.Core.Path.{_≡_};
 ghost use Prim.Native.Nat.{_≤_};
 ghost use lib.ListN.{length};
-ghost use Rattle.requests.specs.Request.{limitOf, fieldOf, kindsOf, Within, FewSamples, Samples};
+ghost use Rattle.requests.specs.Request.{limitOf, fieldOf, kindsOf, exactlyOf};
+ghost use Rattle.requests.specs.Inner.Cursors.{wordsFrom, Fields, Counted};
 
 // The cursor after some fields, or that one of them is malformed.
 pub enum Place {
@@ -41,9 +43,9 @@ fn read_field(word: &[u8], kind: u8) -> Natural
 }
 
 // A field for each kind, from the cursor `at` on.
-fn read_fields(line: &[u8], at: usize, kinds: &[u8], fields: &mut [u64; 40]) -> Place
-    requires { ⌜ length (now kinds) ≤ 40 ⌝ }
-    ensures { λ r. ⌜ Within r (now (kinds .entry)) (now (fields .exit)) ⌝ }
+fn read_fields(line: &[u8], at: usize, kinds: &[u8], fields: &mut [u64]) -> Place
+    requires { ⌜ length (now kinds) ≤ length (now fields) ⌝ }
+    ensures { λ r. ⌜ Fields (now (kinds .entry)) (now (line .entry)) at (now (fields .exit)) r ⌝ }
 {
     let mut next = at;
     let mut i = 0;
@@ -64,19 +66,15 @@ fn read_fields(line: &[u8], at: usize, kinds: &[u8], fields: &mut [u64; 40]) -> 
 
 // The fields of a verb before N:
 //   transform: LOG2W LOG2H
-//   quantise, quantise-least: COMPONENT LOG2 QP LAMBDA INTRA_SLICE INTRA_CODED, COSTS
-//   subblock, subblock-least: LOG2 RUN QPY LAMBDAY QPU LAMBDAU QPV LAMBDAV INTRA_SLICE INTRA_CODED, COSTS
+//   quantise: COMPONENT LOG2 QP LAMBDA FLAGS, COSTS
+//   subblock: LOG2 RUN QPY LAMBDAY QPU LAMBDAU QPV LAMBDAV FLAGS, COSTS
 pub fn read_head(verb: Verb, line: &[u8], at: usize, fields: &mut [u64; 40]) -> Place
-    ensures { λ r. ⌜ Within r (kindsOf verb) (now (fields .exit)) ⌝ }
+    ensures { λ r. ⌜ Fields (kindsOf verb) (now (line .entry)) at (now (fields .exit)) r ⌝ }
 {
     match verb {
         Verb::Transform => read_fields(line, at, b"ww", fields),
-        Verb::Quantise(_) => {
-            read_fields(line, at, b"cwixiiwwwwwwwwwwwwwwwwwwwwwwwwwwww", fields)
-        }
-        Verb::SubBlock(_) => {
-            read_fields(line, at, b"wiixixixiiwwwwwwwwwwwwwwwwwwwwwwwwwwww", fields)
-        }
+        Verb::Quantise => read_fields(line, at, b"cwixiwwwwwwwwwwwwwwwwwwwwwwwwwwww", fields),
+        Verb::SubBlock => read_fields(line, at, b"wiixixixiwwwwwwwwwwwwwwwwwwwwwwwwwwww", fields),
     }
 }
 
@@ -87,7 +85,7 @@ pub enum Count {
 }
 
 pub fn read_count(line: &[u8], at: usize) -> Count
-    ensures { λ r. ⌜ FewSamples r ⌝ }
+    ensures { λ r. ⌜ Counted (now (line .entry)) at r ⌝ }
 {
     if line.len() < at {
         return Count::Malformed;
@@ -101,7 +99,8 @@ pub fn read_count(line: &[u8], at: usize) -> Count
 
 // Whether exactly as many samples follow as there is room for.
 pub fn read_samples(line: &[u8], at: usize, room: &mut [i16]) -> bool
-    ensures { λ r. ⌜ (r ≡ true → Samples (now (line .entry)) at (now (room .exit))) ⌝ }
+    ensures { λ r. ⌜ exactlyOf (length (now (room .entry))) (wordsFrom (now (line .entry)) at)
+        ≡ cond r (some (now (room .exit))) none ⌝ }
 {
     let n = room.len();
     let mut next = at;

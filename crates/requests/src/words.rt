@@ -3,7 +3,7 @@
 ghost use mathlib.Core.Path.{_≡_};
 ghost use Prim.Native.Nat.{_≤_};
 ghost use lib.ListN.{length};
-ghost use Rattle.requests.specs.Words.{endFrom};
+ghost use Rattle.requests.specs.Inner.Cursors.{endFrom};
 
 // Where the word that starts at `at` ends.
 pub fn word_end(line: &[u8], at: usize) -> usize

@@ -3,32 +3,23 @@
 use coding::Coded;
 use coding::Mode;
 use levels::code_in;
-use weights::prices::Prices;
 use scaling::scale::Scale;
+use weights::prices::Prices;
 ghost use Prim.Native.Nat.{_≤_, _^_};
 ghost use Rattle.refusals.specs.Sides.{mostLog2};
 ghost use Rattle.levels.specs.Inner.Levels.{Codable, CodedAs};
-ghost use Rattle.rooms.specs.Inner.Rooms.{Holding};
 
-// In rooms that hold the block, by their fronts.
-fn code_within(
-    block: &mut [i16],
-    log2_side: usize,
-    p: Prices,
-    g: Scale,
-    d: u64,
-    mode: Mode,
-    scan: &mut [u16],
-    kept: &mut [u16],
-    levels: &mut [u16],
-) -> Coded
-    requires { ⌜ (1 ≤ «log2_side») × («log2_side» ≤ mostLog2)
-        × Codable p g (2 ^ «log2_side») (2 ^ «log2_side») (now block) d
-        × Holding (now block) (now scan) (now kept) (now levels) ⌝ }
+// The rooms are as large as the blocks of a side need: to clear them takes time.
+fn code_small(block: &mut [i16], log2_side: usize, p: Prices, g: Scale, d: u64, mode: Mode) -> Coded
+    requires { ⌜ (1 ≤ «log2_side») × («log2_side» ≤ 3)
+        × Codable p g (2 ^ «log2_side») (2 ^ «log2_side») (now block) d ⌝ }
     ensures { λ r. ⌜ CodedAs mode p g (2 ^ «log2_side») (2 ^ «log2_side») (now (block .entry))
         (now (block .exit)) r ⌝ }
 {
     let n = block.len();
+    let mut scan = [0u16; 64];
+    let mut kept = [0u16; 64];
+    let mut levels = [0u16; 64];
     code_in(
         block,
         log2_side,
@@ -39,29 +30,6 @@ fn code_within(
         &mut scan[..n],
         &mut kept[..n],
         &mut levels[..n],
-    )
-}
-
-// The rooms are as large as the blocks of a side need: to clear them takes time.
-fn code_small(block: &mut [i16], log2_side: usize, p: Prices, g: Scale, d: u64, mode: Mode) -> Coded
-    requires { ⌜ (1 ≤ «log2_side») × («log2_side» ≤ 3)
-        × Codable p g (2 ^ «log2_side») (2 ^ «log2_side») (now block) d ⌝ }
-    ensures { λ r. ⌜ CodedAs mode p g (2 ^ «log2_side») (2 ^ «log2_side») (now (block .entry))
-        (now (block .exit)) r ⌝ }
-{
-    let mut scan = [0u16; 64];
-    let mut kept = [0u16; 64];
-    let mut levels = [0u16; 64];
-    code_within(
-        block,
-        log2_side,
-        p,
-        g,
-        d,
-        mode,
-        &mut scan,
-        &mut kept,
-        &mut levels,
     )
 }
 
@@ -78,19 +46,20 @@ fn code_middle(
     ensures { λ r. ⌜ CodedAs mode p g (2 ^ «log2_side») (2 ^ «log2_side») (now (block .entry))
         (now (block .exit)) r ⌝ }
 {
+    let n = block.len();
     let mut scan = [0u16; 256];
     let mut kept = [0u16; 256];
     let mut levels = [0u16; 256];
-    code_within(
+    code_in(
         block,
         log2_side,
         p,
         g,
         d,
         mode,
-        &mut scan,
-        &mut kept,
-        &mut levels,
+        &mut scan[..n],
+        &mut kept[..n],
+        &mut levels[..n],
     )
 }
 
@@ -100,19 +69,20 @@ fn code_large(block: &mut [i16], log2_side: usize, p: Prices, g: Scale, d: u64, 
     ensures { λ r. ⌜ CodedAs mode p g (2 ^ «log2_side») (2 ^ «log2_side») (now (block .entry))
         (now (block .exit)) r ⌝ }
 {
+    let n = block.len();
     let mut scan = [0u16; 1024];
     let mut kept = [0u16; 1024];
     let mut levels = [0u16; 1024];
-    code_within(
+    code_in(
         block,
         log2_side,
         p,
         g,
         d,
         mode,
-        &mut scan,
-        &mut kept,
-        &mut levels,
+        &mut scan[..n],
+        &mut kept[..n],
+        &mut levels[..n],
     )
 }
 

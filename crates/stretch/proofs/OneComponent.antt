@@ -11,6 +11,7 @@ use Rattle.refusals.specs.Faults.{Outcome, passed}
 use Rattle.transform.specs.Coefficients.{coefficients}
 use Rattle.transform.specs.Call.{Trans, places, transVerdict, transBuffer}
 use Rattle.transform.specs.Call as trans
+use Rattle.price.specs.declared.Costs.{Costs}
 use Rattle.coding.specs.declared.Coded.{Coded}
 use Rattle.coding.specs.declared.Coding.{Coding}
 use Rattle.coding.specs.Block.{called}
@@ -22,7 +23,8 @@ use Rattle.components.proofs.Blocks.{block-accepted, block-leaves}
 use Rattle.admission.specs.Inner.Tested.{setOf}
 use Rattle.stretch.specs.Inner.Part.{log2In, codingOf, quantIn, Ready, partAnswer, partLeft}
 
-module _ (k : Component) (q : Request) (r : List ℤ) (ready : Ready k q r) (run : bit k (q .run) ≡ true) where
+module _ (k : Component) (t : Costs) (q : Request) (r : List ℤ) (ready : Ready k t q r)
+    (run : bit k (q .run) ≡ true) where
   abbrev its-trans : Trans
   its-trans = trans.called r (log2In k q) (log2In k q)
 
@@ -44,7 +46,7 @@ module _ (k : Component) (q : Request) (r : List ℤ) (ready : Ready k q r) (run
 
   -- the call that the quantiser is given is the definition's, by what it is asked and the buffer that it is lent
   module _ (b : List ℤ) (c : Coding) (component : c .component ≡ k) (slice : c .«intra_slice» ≡ q .«intra_slice»)
-      (intra : c .«intra_coded» ≡ q .«intra_coded») (costs : c .costs ≡ q .costs) (mode : c .mode ≡ q .mode)
+      (intra : c .«intra_coded» ≡ q .«intra_coded») (mode : c .mode ≡ q .mode)
       (log2 : c .log2 ≡ log2In k q) (settings : c .settings ≡ setOf k q)
       (transformed : b ≡ transBuffer (trans.called r (c .log2) (c .log2))) where
     asked : c ≡ codingOf k q
@@ -54,18 +56,17 @@ module _ (k : Component) (q : Request) (r : List ℤ) (ready : Ready k q r) (run
       settings = settings i;
       «intra_slice» = slice i;
       «intra_coded» = intra i;
-      costs = costs i;
       mode = mode i;
     }
 
-    quant-called : called b c ≡ quantIn k q r
+    quant-called : called b t c ≡ quantIn k t q r
     unfolding quantIn
     quant-called =
-        ap (λ (x : List ℤ). called x c) (transformed ∙ trans-leaves (c .log2) log2)
-        ∙ (λ i. called (coefficients r (log2 i) (log2 i)) (asked i))
+        ap (λ (x : List ℤ). called x t c) (transformed ∙ trans-leaves (c .log2) log2)
+        ∙ (λ i. called (coefficients r (log2 i) (log2 i)) t (asked i))
 
     -- what the quantiser makes of it is what is said of the component
-    pub part-coded : (answer : Outcome Coded) (left : List ℤ) → answer ≡ quantAnswer (called b c)
-        → left ≡ quantBuffer (called b c) → (answer ≡ partAnswer k q r) × (left ≡ partLeft k q r)
+    pub part-coded : (answer : Outcome Coded) (left : List ℤ) → answer ≡ quantAnswer (called b t c)
+        → left ≡ quantBuffer (called b t c) → (answer ≡ partAnswer k t q r) × (left ≡ partLeft k t q r)
     unfolding partAnswer partLeft
     part-coded answer left ea ef = rw run (ea ∙ ap quantAnswer quant-called, ef ∙ ap quantBuffer quant-called)

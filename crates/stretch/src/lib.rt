@@ -11,6 +11,7 @@ use transform::TransAnswer;
 use transform::trans;
 ghost use mathlib.Core.Path.{_≡_};
 ghost use Prim.Native.Nat.{_≤_};
+ghost use Rattle.price.specs.Costs.{costsOf};
 ghost use Rattle.coding.specs.Call.{quantOutcome};
 ghost use Rattle.components.specs.Call.{log2Of};
 ghost use Rattle.stretch.specs.Inner.Part.{Ready, partAnswer, partLeft};
@@ -27,15 +28,21 @@ fn log2_of(log2_luma: usize, component: Component) -> usize
     }
 }
 
-pub fn code_component(part: &mut [i16], q: Request, component: Component) -> QuantAnswer
-    requires { ⌜ Ready component q (now part) ⌝ }
-    ensures answer { λ r. ⌜ quantOutcome r ≡ partAnswer component q (now (part .entry)) ⌝ }
-    ensures buffer { λ _. ⌜ now (part .exit) ≡ partLeft component q (now (part .entry)) ⌝ }
+pub fn code_component(
+    part: &mut [i16],
+    costs: &[u64; 28],
+    q: Request,
+    component: Component,
+) -> QuantAnswer
+    requires { ⌜ Ready component (costsOf (now costs)) q (now part) ⌝ }
+    ensures answer { λ r. ⌜ quantOutcome r ≡ partAnswer component (costsOf (now (costs .entry))) q (now
+        (part .entry)) ⌝ }
+    ensures buffer { λ _. ⌜ now (part .exit) ≡ partLeft component (costsOf (now (costs .entry))) q (now
+        (part .entry)) ⌝ }
 {
     if is_run(q.run, component) {
         let log2 = log2_of(q.log2_luma, component);
         let settings = settings_of(q, component);
-        let costs = q.costs;
         let mode = q.mode;
         let coding = Coding {
             log2: log2,
@@ -43,13 +50,12 @@ pub fn code_component(part: &mut [i16], q: Request, component: Component) -> Qua
             settings: settings,
             intra_slice: q.intra_slice,
             intra_coded: q.intra_coded,
-            costs: costs,
             mode: mode,
         };
         let t = trans(part, log2, log2);
         return match t {
             TransAnswer::Refused(why) => QuantAnswer::Refused(why, component),
-            TransAnswer::Accepted => quant_nnz(part, coding),
+            TransAnswer::Accepted => quant_nnz(part, costs, coding),
         };
     }
     QuantAnswer::Coded(Coded { count: 0, price: 0 })

@@ -11,6 +11,7 @@ use Rattle.refusals.specs.declared.Component.{Component}
 use Rattle.refusals.specs.declared.Component.the-variants.{Y, U, «V»}
 use Rattle.refusals.specs.Numbers.{numberOf, componentOf}
 use Rattle.refusals.specs.Faults.{accepted, passed, refused, verdict}
+use Rattle.price.specs.declared.Costs.{Costs}
 use Rattle.coding.specs.declared.Coded.{Coded}
 use Rattle.components.specs.declared.Request.{Request}
 use Rattle.components.specs.declared.SubBlockAnswer.{SubBlockAnswer}
@@ -32,62 +33,63 @@ pub front : (b l : List ℤ) (v : ℕ) → l ≡ take (v - 0) b → l ≡ take v
 front b l v e = e ∙ ap (λ (k : ℕ). take k b) (y-long v)
 
 -- ---- a call that an early test refuses
-module _ (b : List ℤ) (q : Request) (m k : ℕ) where
-  whole-refused : subBlockVerdict (requested b q) ≡ refused m k
-      → (refused m k ≡ subBlockAnswer (requested b q)) × (b ≡ subBlockBuffer (requested b q))
+module _ (b : List ℤ) (t : Costs) (q : Request) (m k : ℕ) where
+  whole-refused : subBlockVerdict (requested b t q) ≡ refused m k
+      → (refused m k ≡ subBlockAnswer (requested b t q)) × (b ≡ subBlockBuffer (requested b t q))
   unfolding requested
   whole-refused v =
-      let s = requested b q in
+      let s = requested b t q in
       (sym (refused-answer s m k v), sym (refused-leaves s m k v))
 
-  pub settings-refused : verdict settingsFaults (requested b q) ≡ refused m k
-      → (refused m k ≡ subBlockAnswer (requested b q)) × (b ≡ subBlockBuffer (requested b q))
-  settings-refused e = whole-refused (verdict-in-groups (requested b q) ∙ rw e)
+  pub settings-refused : verdict settingsFaults (requested b t q) ≡ refused m k
+      → (refused m k ≡ subBlockAnswer (requested b t q)) × (b ≡ subBlockBuffer (requested b t q))
+  settings-refused e = whole-refused (verdict-in-groups (requested b t q) ∙ rw e)
 
-  pub buffer-refused : verdict settingsFaults (requested b q) ≡ passed → verdict bufferFaults (requested b q)
+  pub buffer-refused : verdict settingsFaults (requested b t q) ≡ passed → verdict bufferFaults (requested b t q)
       ≡ refused m k
-      → (refused m k ≡ subBlockAnswer (requested b q)) × (b ≡ subBlockBuffer (requested b q))
-  buffer-refused e f = whole-refused (verdict-in-groups (requested b q) ∙ rw (e, f))
+      → (refused m k ≡ subBlockAnswer (requested b t q)) × (b ≡ subBlockBuffer (requested b t q))
+  buffer-refused e f = whole-refused (verdict-in-groups (requested b t q) ∙ rw (e, f))
 
 -- ---- and one that is coded
-module _ (b : List ℤ) (q : Request) (n : ℕ) (z : Sizes (q .«log2_luma») n) (passed : EarlyPassed (requested b q)) where
+module _ (b : List ℤ) (t : Costs) (q : Request) (n : ℕ) (z : Sizes (q .«log2_luma») n) (passed : EarlyPassed
+    (requested b t q)) where
   abbrev s : SubBlock
-  s = requested b q
+  s = requested b t q
 
   abbrev space : List ℤ
-  space = room b q n z (passed .settings) (passed .buffer)
+  space = room b t q n z (passed .settings) (passed .buffer)
 
   is : (k : Component) → residuals k n space ≡ stretch k s
-  is = room-holds b q n z (passed .settings) (passed .buffer)
+  is = room-holds b t q n z (passed .settings) (passed .buffer)
 
-  all : AllReady q n space
-  all = all-ready b q n z (passed .settings) (passed .buffer)
+  all : AllReady t q n space
+  all = all-ready b t q n z (passed .settings) (passed .buffer)
 
-  ready : (k : Component) → Ready k q (stretch k s)
-  ready Y = subst (λ (r : List ℤ). Ready Y q r) (is Y) (all .y)
-  ready U = subst (λ (r : List ℤ). Ready U q r) (is U) (all .u)
-  ready «V» = subst (λ (r : List ℤ). Ready «V» q r) (is «V») (all .v)
+  ready : (k : Component) → Ready k t q (stretch k s)
+  ready Y = subst (λ (r : List ℤ). Ready Y t q r) (is Y) (all .y)
+  ready U = subst (λ (r : List ℤ). Ready U t q r) (is U) (all .u)
+  ready «V» = subst (λ (r : List ℤ). Ready «V» t q r) (is «V») (all .v)
 
   module _ (before after : List ℤ) (r : SubBlockAnswer) (copied : before ≡ take (n + n / 4 + n / 4 - 0) b)
-      (done : Parted q n before after r) where
-    p : Parted q n space after r
-    p = subst (λ (l : List ℤ). Parted q n l after r) (front b before (n + n / 4 + n / 4) copied) done
+      (done : Parted t q n before after r) where
+    p : Parted t q n space after r
+    p = subst (λ (l : List ℤ). Parted t q n l after r) (front b before (n + n / 4 + n / 4) copied) done
 
     pub finished-answer : subBlockOutcome r ≡ subBlockAnswer s
     finished-answer =
         p .answer
-        ∙ (λ i. joined (partAnswer Y q (is Y i)) (partAnswer U q (is U i)) (partAnswer «V» q (is «V» i)))
-        ∙ answer-is b q n z ready (passed .settings) (passed .buffer)
+        ∙ (λ i. joined (partAnswer Y t q (is Y i)) (partAnswer U t q (is U i)) (partAnswer «V» t q (is «V» i)))
+        ∙ answer-is b t q n z ready (passed .settings) (passed .buffer)
 
     pub finished-coded : (x y w : Coded) → r ≡ answers.Coded x y w
         → subBlockBuffer s ≡ after ++ drop (n + n / 4 + n / 4) b
     finished-coded x y w e =
         let c = ap subBlockOutcome e in
-        coded-leaves b q n z ready (passed .settings) (passed .buffer)
+        coded-leaves b t q n z ready (passed .settings) (passed .buffer)
         (coded-accepted s x y w (sym finished-answer ∙ c))
         after
         (p .left x y w c
-        ∙ (λ i. partLeft Y q (is Y i) ++ (partLeft U q (is U i) ++ partLeft «V» q (is «V» i))))
+        ∙ (λ i. partLeft Y t q (is Y i) ++ (partLeft U t q (is U i) ++ partLeft «V» t q (is «V» i))))
 
     pub finished-refused : (why : Refusal) (k : Component) → r ≡ answers.Refused why k → subBlockBuffer s ≡ b
     unfolding requested

@@ -17,6 +17,7 @@ use Rattle.refusals.specs.Faults.{accepted, passed, verdict}
 use Rattle.transform.specs.Call.{wild}
 use Rattle.price.specs.declared.Settings.{Settings}
 use Rattle.price.specs.Lambda.{lambdaRefused}
+use Rattle.price.specs.declared.Costs.{Costs}
 use Rattle.components.specs.declared.Request.{Request}
 use Rattle.components.specs.Call.{SubBlock, requested, runs, settingsOf, area, stretch}
 use Rattle.components.specs.Inner.Groups.{settingsFaults, bufferFaults}
@@ -26,23 +27,24 @@ use Rattle.turns.specs.Inner.Parts.{AllReady}
 use Rattle.admission.proofs.Stretches.{stretch-is}
 use Rattle.components.proofs.Accepted.{sides-fine, qp-fine, lambda-fine, costs-fine, long-enough, residuals-tame}
 
-module _ (b : List ℤ) (q : Request) (e : verdict settingsFaults (requested b q) ≡ passed) where
+module _ (b : List ℤ) (t : Costs) (q : Request) (e : verdict settingsFaults (requested b t q) ≡ passed) where
   pub log2-fine : (2 ≤ q .«log2_luma») × (q .«log2_luma» ≤ mostLog2)
   unfolding requested
-  log2-fine = sides-fine (requested b q) e .0
+  log2-fine = sides-fine (requested b t q) e .0
 
 -- a request's settings are those of its call
-settings-are : (k : Component) (b : List ℤ) (q : Request) → settingsOf k (requested b q) ≡ setOf k q
+settings-are : (k : Component) (b : List ℤ) (t : Costs) (q : Request) → settingsOf k (requested b t q) ≡ setOf k q
 unfolding requested
-settings-are Y b q = refl
-settings-are U b q = refl
-settings-are «V» b q = refl
+settings-are Y b t q = refl
+settings-are U b t q = refl
+settings-are «V» b t q = refl
 
-module _ (b : List ℤ) (q : Request) (n : ℕ) (z : Sizes (q .«log2_luma») n) (e : verdict settingsFaults (requested b q)
+module _ (b : List ℤ) (t : Costs) (q : Request) (n : ℕ) (z : Sizes (q .«log2_luma») n) (e : verdict settingsFaults
+    (requested b t q)
     ≡ passed)
-    (f : verdict bufferFaults (requested b q) ≡ passed) where
+    (f : verdict bufferFaults (requested b t q) ≡ passed) where
   abbrev s : SubBlock
-  s = requested b q
+  s = requested b t q
 
   pub room-of : n + n / 4 + n / 4 ≤ length b
   unfolding requested area
@@ -53,29 +55,30 @@ module _ (b : List ℤ) (q : Request) (n : ℕ) (z : Sizes (q .«log2_luma») n)
   room = take (n + n / 4 + n / 4) b
 
   pub room-holds : (k : Component) → residuals k n room ≡ stretch k s
-  room-holds Y = part-of-front 0 n (n + n / 4 + n / 4) b (omega arith) ∙ stretch-is b q n z Y
-  room-holds U = part-of-front n (n / 4) (n + n / 4 + n / 4) b (omega arith) ∙ stretch-is b q n z U
-  room-holds «V» = part-of-front (n + n / 4) (n / 4) (n + n / 4 + n / 4) b (omega arith) ∙ stretch-is b q n z «V»
+  room-holds Y = part-of-front 0 n (n + n / 4 + n / 4) b (omega arith) ∙ stretch-is b t q n z Y
+  room-holds U = part-of-front n (n / 4) (n + n / 4 + n / 4) b (omega arith) ∙ stretch-is b t q n z U
+  room-holds «V» = part-of-front (n + n / 4) (n / 4) (n + n / 4 + n / 4) b (omega arith) ∙ stretch-is b t q n z «V»
 
   residuals-long : (k : Component) → length (residuals k n room) ≡ 2 ^ log2In k q * 2 ^ log2In k q
   residuals-long Y = simp length-take (omega (arith, room-of, z .luma))
   residuals-long U = simp (length-take, length-drop) (omega (arith, room-of, z .chroma))
   residuals-long «V» = simp (length-take, length-drop) (omega (arith, room-of, z .chroma))
 
-  ready-of : (k : Component) → Ready k q (residuals k n room)
+  ready-of : (k : Component) → Ready k t q (residuals k n room)
   unfolding requested runs
   ready-of k =
       record {
-        low = log2-fine b q e .0;
-        high = log2-fine b q e .1;
+        low = log2-fine b t q e .0;
+        high = log2-fine b t q e .1;
         long = residuals-long k;
         costs = costs-fine s f;
-        qp = λ h. ap (λ (x : Settings). ltb 63 (x .qp)) (sym (settings-are k b q)) ∙ qp-fine s e k h;
-        lambda = λ h. ap (λ (x : Settings). lambdaRefused (x .lambda)) (sym (settings-are k b q)) ∙ lambda-fine s e k h;
+        qp = λ h. ap (λ (x : Settings). ltb 63 (x .qp)) (sym (settings-are k b t q)) ∙ qp-fine s e k h;
+        lambda = λ h. ap (λ (x : Settings). lambdaRefused (x .lambda)) (sym (settings-are k b t q))
+            ∙ lambda-fine s e k h;
         tame = λ h. ap (λ (r : List ℤ). some wild r) (room-holds k) ∙ residuals-tame s f k h;
       }
 
-  pub all-ready : AllReady q n room
+  pub all-ready : AllReady t q n room
   all-ready =
       record {
         sizes = z;

@@ -13,6 +13,7 @@ use Rattle.refusals.specs.declared.Component.the-variants.{Y, U, «V»}
 use Rattle.refusals.specs.Faults.{Outcome, accepted, passed, refused, verdict}
 use Rattle.refusals.proofs.First.{orElse}
 use Rattle.transform.proofs.Bounds.{coefficients-long, none-is-least}
+use Rattle.price.specs.declared.Costs.{Costs}
 use Rattle.coding.specs.Block.{Quant, called, area, countOf, priceOf, quantised}
 use Rattle.coding.specs.Call as quant
 use Rattle.components.specs.declared.Request.{Request}
@@ -30,14 +31,14 @@ use Rattle.turns.specs.Inner.Parts.{joined}
 
 -- ---- a component
 -- the quantiser alone finds no early fault in the coefficients of tame residuals
-alone-is-late : (k : Component) (q : Request) (r : List ℤ) → Ready k q r → bit k (q .run) ≡ true
-    → quant.quantVerdict (quantIn k q r) ≡ verdict lateFaults (quantIn k q r)
+alone-is-late : (k : Component) (t : Costs) (q : Request) (r : List ℤ) → Ready k t q r → bit k (q .run) ≡ true
+    → quant.quantVerdict (quantIn k t q r) ≡ verdict lateFaults (quantIn k t q r)
 unfolding quantIn called area
-alone-is-late k q r ready run =
+alone-is-late k t q r ready run =
     let l = log2In k q in
     let i = log2-inside k (q .«log2_luma») (ready .low) (ready .high) in
     let s = log2-high k (q .«log2_luma») (ready .high) in
-    alone-late (quantIn k q r) i i (ready .qp run) (ready .lambda run) (ready .costs)
+    alone-late (quantIn k t q r) i i (ready .qp run) (ready .lambda run) (ready .costs)
     (omega (arith, coefficients-long r l l))
     (none-is-least l l s s r (ready .long) (ready .tame run))
 
@@ -51,52 +52,52 @@ joined-outcomes (accepted x) (refused m k) z a b c d e f = refl
 joined-outcomes (accepted x) (accepted y) (refused m k) a b c d e f = refl
 joined-outcomes (accepted x) (accepted y) (accepted z) a b c d e f = refl
 
-module _ (b : List ℤ) (q : Request) where
+module _ (b : List ℤ) (t : Costs) (q : Request) where
   abbrev s : SubBlock
-  s = requested b q
+  s = requested b t q
 
-  quant-is : (k : Component) → quantIn k q (stretch k s) ≡ quantOf k s
+  quant-is : (k : Component) → quantIn k t q (stretch k s) ≡ quantOf k s
   unfolding quantIn called quantOf quantOn transOf requested
   quant-is Y = refl
   quant-is U = refl
   quant-is «V» = refl
 
-  part-answer : (k : Component) → Ready k q (stretch k s)
-      → partAnswer k q (stretch k s) ≡ alone (lateOf k s) (count k s) (price k s)
+  part-answer : (k : Component) → Ready k t q (stretch k s)
+      → partAnswer k t q (stretch k s) ≡ alone (lateOf k s) (count k s) (price k s)
   unfolding partAnswer count price runs requested
   part-answer k ready = by (bit k (q .run)) refl
     where
-      by : (t : Bool) → bit k (q .run) ≡ t
-          → cond t (quant.quantAnswer (quantIn k q (stretch k s))) (quant.coded 0 0)
-          ≡ alone (cond t (verdict lateFaults (quantOf k s)) passed) (cond t (countOf (quantOf k s)) 0)
-          (cond t (priceOf (quantOf k s)) 0)
+      by : (o : Bool) → bit k (q .run) ≡ o
+          → cond o (quant.quantAnswer (quantIn k t q (stretch k s))) (quant.coded 0 0)
+          ≡ alone (cond o (verdict lateFaults (quantOf k s)) passed) (cond o (countOf (quantOf k s)) 0)
+          (cond o (priceOf (quantOf k s)) 0)
       by true run =
-          answer-alone (quantIn k q (stretch k s))
-          ∙ ap (λ (v : Outcome Unit). alone v (countOf (quantIn k q (stretch k s)))
-          (priceOf (quantIn k q (stretch k s))))
-          (alone-is-late k q (stretch k s) ready run)
+          answer-alone (quantIn k t q (stretch k s))
+          ∙ ap (λ (v : Outcome Unit). alone v (countOf (quantIn k t q (stretch k s)))
+          (priceOf (quantIn k t q (stretch k s))))
+          (alone-is-late k t q (stretch k s) ready run)
           ∙ ap (λ (c : Quant). alone (verdict lateFaults c) (countOf c) (priceOf c)) (quant-is k)
       by false run = refl
 
   -- what a component leaves whose coefficients show no fault
-  part-left : (k : Component) → Ready k q (stretch k s) → lateOf k s ≡ passed
-      → partLeft k q (stretch k s) ≡ levels k s
+  part-left : (k : Component) → Ready k t q (stretch k s) → lateOf k s ≡ passed
+      → partLeft k t q (stretch k s) ≡ levels k s
   unfolding partLeft levels runs requested
   part-left k ready late = by (bit k (q .run)) refl late
     where
-      by : (t : Bool) → bit k (q .run) ≡ t → cond t (verdict lateFaults (quantOf k s)) passed ≡ passed
-          → cond t (quant.quantBuffer (quantIn k q (stretch k s))) (stretch k s)
-          ≡ cond t (quantised (quantOf k s)) (stretch k s)
+      by : (o : Bool) → bit k (q .run) ≡ o → cond o (verdict lateFaults (quantOf k s)) passed ≡ passed
+          → cond o (quant.quantBuffer (quantIn k t q (stretch k s))) (stretch k s)
+          ≡ cond o (quantised (quantOf k s)) (stretch k s)
       by true run e =
-          buffer-alone (quantIn k q (stretch k s))
-          (alone-is-late k q (stretch k s) ready run
+          buffer-alone (quantIn k t q (stretch k s))
+          (alone-is-late k t q (stretch k s) ready run
           ∙ ap (λ (c : Quant). verdict lateFaults c) (quant-is k)
           ∙ e)
           ∙ ap quantised (quant-is k)
       by false run e = refl
 
   -- ---- the three
-  module _ (n : ℕ) (z : Sizes (q .«log2_luma») n) (ready : (k : Component) → Ready k q (stretch k s))
+  module _ (n : ℕ) (z : Sizes (q .«log2_luma») n) (ready : (k : Component) → Ready k t q (stretch k s))
       (e : verdict settingsFaults s ≡ passed) (f : verdict bufferFaults s ≡ passed) where
     abbrev late : Outcome Unit
     late = orElse (lateOf Y s) (orElse (lateOf U s) (lateOf «V» s))
@@ -108,7 +109,7 @@ module _ (b : List ℤ) (q : Request) where
         ∙ ap (λ (v : Outcome Unit). orElse v late) f
 
     pub answer-is :
-        joined (partAnswer Y q (stretch Y s)) (partAnswer U q (stretch U s)) (partAnswer «V» q (stretch «V» s))
+        joined (partAnswer Y t q (stretch Y s)) (partAnswer U t q (stretch U s)) (partAnswer «V» t q (stretch «V» s))
         ≡ subBlockAnswer s
     unfolding share
     answer-is =
@@ -124,7 +125,7 @@ module _ (b : List ℤ) (q : Request) where
 
     -- accepted: the three stretches and the surplus
     pub coded-leaves : subBlockVerdict s ≡ passed → (after : List ℤ)
-        → after ≡ partLeft Y q (stretch Y s) ++ (partLeft U q (stretch U s) ++ partLeft «V» q (stretch «V» s))
+        → after ≡ partLeft Y t q (stretch Y s) ++ (partLeft U t q (stretch U s) ++ partLeft «V» t q (stretch «V» s))
         → subBlockBuffer s ≡ after ++ drop (n + n / 4 + n / 4) b
     unfolding requested
     coded-leaves v after ea =

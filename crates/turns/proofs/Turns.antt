@@ -15,6 +15,7 @@ use Rattle.refusals.specs.declared.Component.the-variants.{Y, U, «V»}
 use Rattle.refusals.specs.Numbers.{numberOf, componentOf}
 use Rattle.refusals.specs.Faults.{Outcome, accepted, refused, ifAccepted}
 use Rattle.transform.proofs.Bounds.{coefficients-long}
+use Rattle.price.specs.declared.Costs.{Costs}
 use Rattle.coding.specs.declared.Coded.{Coded}
 use Rattle.coding.specs.declared.QuantAnswer.{QuantAnswer}
 use Rattle.coding.specs.Block.{Quant, called, quantised}
@@ -40,12 +41,13 @@ quant-length c = by (quantVerdict c)
     by (accepted u) = quantised-length c
     by (refused n k) = refl
 
-left-length : (k : Component) (q : Request) (r : List ℤ) → Ready k q r → length (partLeft k q r) ≡ length r
+left-length : (k : Component) (t : Costs) (q : Request) (r : List ℤ) → Ready k t q r
+    → length (partLeft k t q r) ≡ length r
 unfolding partLeft quantIn called
-left-length k q r ready = by (bit k (q .run))
+left-length k t q r ready = by (bit k (q .run))
   where
-    by : (t : Bool) → length (cond t (quantBuffer (quantIn k q r)) r) ≡ length r
-    by true = quant-length (quantIn k q r) ∙ coefficients-long r (log2In k q) (log2In k q) ∙ sym (ready .long)
+    by : (b : Bool) → length (cond b (quantBuffer (quantIn k t q r)) r) ≡ length r
+    by true = quant-length (quantIn k t q r) ∙ coefficients-long r (log2In k q) (log2In k q) ∙ sym (ready .long)
     by false = refl
 
 -- ---- the answers
@@ -53,17 +55,17 @@ left-length k q r ready = by (bit k (q .run))
 pub said : {A : Outcome Coded} {a b : QuantAnswer} → quant.quantOutcome a ≡ A → a ≡ b → A ≡ quant.quantOutcome b
 said e g = sym e ∙ ap quant.quantOutcome g
 
-module _ (q : Request) (n : ℕ) (l : List ℤ) where
+module _ (t : Costs) (q : Request) (n : ℕ) (l : List ℤ) where
   -- what a component answers of its residuals in the room, and what it leaves of them
   abbrev pub answerOf : Component → Outcome Coded
-  answerOf k = partAnswer k q (residuals k n l)
+  answerOf k = partAnswer k t q (residuals k n l)
 
   abbrev pub leftOf : Component → List ℤ
-  leftOf k = partLeft k q (residuals k n l)
+  leftOf k = partLeft k t q (residuals k n l)
 
   pub refused-parted : (after : List ℤ) (why : Refusal) (k : Component) (y u v : Outcome Coded) → answerOf Y ≡ y
       → answerOf U ≡ u → answerOf «V» ≡ v → joined y u v ≡ refused (numberOf why) (componentOf k)
-      → Parted q n l after (answers.Refused why k)
+      → Parted t q n l after (answers.Refused why k)
   refused-parted after why k y u v ey eu ev e =
       record {
         answer = sym ((λ i. joined (ey i) (eu i) (ev i)) ∙ e);
@@ -72,46 +74,46 @@ module _ (q : Request) (n : ℕ) (l : List ℤ) where
 
   pub coded-parted : (after : List ℤ) (y u v : Coded) → answerOf Y ≡ accepted y
       → answerOf U ≡ accepted u → answerOf «V» ≡ accepted v
-      → after ≡ leftOf Y ++ (leftOf U ++ leftOf «V») → Parted q n l after (answers.Coded y u v)
+      → after ≡ leftOf Y ++ (leftOf U ++ leftOf «V») → Parted t q n l after (answers.Coded y u v)
   coded-parted after y u v ey eu ev e =
       record { answer = sym (λ i. joined (ey i) (eu i) (ev i)); left = λ a b c f. e }
 
 -- ---- the stretches
-module _ (q : Request) (n : ℕ) (l : List ℤ) (ready : AllReady q n l) where
-  y-length : length (leftOf q n l Y) ≡ n
-  y-length = left-length Y q (residuals Y n l) (ready .y) ∙ simp length-take (omega (arith, ready .long))
+module _ (t : Costs) (q : Request) (n : ℕ) (l : List ℤ) (ready : AllReady t q n l) where
+  y-length : length (leftOf t q n l Y) ≡ n
+  y-length = left-length Y t q (residuals Y n l) (ready .y) ∙ simp length-take (omega (arith, ready .long))
 
-  u-length : length (leftOf q n l U) ≡ n / 4
-  u-length = left-length U q (residuals U n l) (ready .u)
+  u-length : length (leftOf t q n l U) ≡ n / 4
+  u-length = left-length U t q (residuals U n l) (ready .u)
       ∙ simp (length-take, length-drop) (omega (arith, ready .long))
 
-  pub first-ready : Ready Y q (lent Y n l)
-  first-ready = subst (λ (r : List ℤ). Ready Y q r) (sym (lent-is Y n l)) (ready .y)
+  pub first-ready : Ready Y t q (lent Y n l)
+  first-ready = subst (λ (r : List ℤ). Ready Y t q r) (sym (lent-is Y n l)) (ready .y)
 
-  module _ (a : List ℤ) (ea : a ≡ partLeft Y q (lent Y n l)) where
-    a-is : a ≡ leftOf q n l Y
-    a-is = ea ∙ ap (partLeft Y q) (lent-is Y n l)
+  module _ (a : List ℤ) (ea : a ≡ partLeft Y t q (lent Y n l)) where
+    a-is : a ≡ leftOf t q n l Y
+    a-is = ea ∙ ap (partLeft Y t q) (lent-is Y n l)
 
     pub second-is : lent U n (after-y l n a) ≡ residuals U n l
-    second-is = second-holds l a (leftOf q n l U) n (ap length a-is ∙ y-length) u-length
+    second-is = second-holds l a (leftOf t q n l U) n (ap length a-is ∙ y-length) u-length
 
-    pub second-ready : Ready U q (lent U n (after-y l n a))
-    second-ready = subst (λ (r : List ℤ). Ready U q r) (sym second-is) (ready .u)
+    pub second-ready : Ready U t q (lent U n (after-y l n a))
+    second-ready = subst (λ (r : List ℤ). Ready U t q r) (sym second-is) (ready .u)
 
-    module _ (b : List ℤ) (eb : b ≡ partLeft U q (lent U n (after-y l n a))) where
-      b-is : b ≡ leftOf q n l U
-      b-is = eb ∙ ap (partLeft U q) second-is
+    module _ (b : List ℤ) (eb : b ≡ partLeft U t q (lent U n (after-y l n a))) where
+      b-is : b ≡ leftOf t q n l U
+      b-is = eb ∙ ap (partLeft U t q) second-is
 
       pub third-is : lent «V» n (after-u l n a b) ≡ residuals «V» n l
       third-is = third-holds l a b n (ap length a-is ∙ y-length) (ap length b-is ∙ u-length)
 
-      pub third-ready : Ready «V» q (lent «V» n (after-u l n a b))
-      third-ready = subst (λ (r : List ℤ). Ready «V» q r) (sym third-is) (ready .v)
+      pub third-ready : Ready «V» t q (lent «V» n (after-u l n a b))
+      third-ready = subst (λ (r : List ℤ). Ready «V» t q r) (sym third-is) (ready .v)
 
-      pub all-left : (c : List ℤ) → c ≡ partLeft «V» q (lent «V» n (after-u l n a b))
-          → after-v l n a b c ≡ leftOf q n l Y ++ (leftOf q n l U ++ leftOf q n l «V»)
+      pub all-left : (c : List ℤ) → c ≡ partLeft «V» t q (lent «V» n (after-u l n a b))
+          → after-v l n a b c ≡ leftOf t q n l Y ++ (leftOf t q n l U ++ leftOf t q n l «V»)
       all-left c ec =
-          let c-is : c ≡ leftOf q n l «V» = ec ∙ ap (partLeft «V» q) third-is in
+          let c-is : c ≡ leftOf t q n l «V» = ec ∙ ap (partLeft «V» t q) third-is in
           three-put l a b n (ap length a-is ∙ y-length) (ap length b-is ∙ u-length) c
           ∙ ap (λ (x : List ℤ). (a ++ (b ++ c)) ++ x) (ap (λ (i : ℕ). drop i l) (sym (ready .long)) ∙ drop-length l)
           ∙ append-nil (a ++ (b ++ c))

@@ -1,54 +1,60 @@
--- Verbs and their words: no two have one word.
+-- Words compared byte by byte, and that a verb is read from its word and from no other.
 -- Assumes nothing.
 use mathlib.Core.Path.{_≡_, refl, sym, ap, _∙_}
-use mathlib.Core.Bool.{Bool, true, false, cond, true≢false}
-use mathlib.Core.List.{List}
+use mathlib.Core.Bool.{Bool, true, false, cond, _&&_, true≢false}
+use mathlib.Core.List.{List, [], _∷_}
 use Prim.Native.Nat.{ℕ}
 use native.Mathlib.Omega.{arith}
+use borrow.Author.Tests.{eq-eqb, eqb-true}
 use lib.Dec.{eqb}
-use lib.ListN.{getD}
-use Rattle.coding.specs.declared.Mode.{Mode}
-use Rattle.coding.specs.declared.Mode.the-variants.{Walk, Least}
 use Rattle.verbs.specs.declared.Verb.{Verb}
 use Rattle.verbs.specs.declared.Verb.the-variants.{Transform, Quantise, SubBlock}
 use Rattle.verbs.specs.declared.Named.the-variants.{Is, Malformed}
-use Rattle.verbs.specs.Verbs.{wordOf, Names}
+use Rattle.verbs.specs.Verbs.{wordOf, sameBytes, verbOf}
 
--- the first letters differ, and in the word of the one mode nothing stands behind the eighth
-modeBy : ℕ → Mode
-modeBy n = cond (eqb n 0) Walk Least
+-- ---- the same bytes
+same-itself : (w : List ℕ) → sameBytes w w ≡ true
+unfolding sameBytes
+same-itself [] = refl
+same-itself (b ∷ w) = rw (eq-eqb b b refl) (same-itself w)
 
-lead : List ℕ → Verb
-unfolding modeBy
-lead w =
-    let m = modeBy (getD w 8 0) in
-    cond (eqb (getD w 0 0) 116) Transform (cond (eqb (getD w 0 0) 113) (Quantise m) (SubBlock m))
+same-bytes : (w v : List ℕ) → sameBytes w v ≡ true → w ≡ v
+unfolding sameBytes
+same-bytes [] [] e = refl
+same-bytes [] (c ∷ v) e = absurd (true≢false (sym e))
+same-bytes (b ∷ w) [] e = absurd (true≢false (sym e))
+same-bytes (b ∷ w) (c ∷ v) e = go (eqb b c) refl (same-bytes w v) e
+  where
+    go : (t : Bool) → eqb b c ≡ t → (sameBytes w v ≡ true → w ≡ v) → (t && sameBytes w v) ≡ true → b ∷ w ≡ c ∷ v
+    go true q rest p = let first = eqb-true b c q in let others = rest p in cc
+    go false q rest p = absurd (true≢false (sym p))
 
-lead-is : (v : Verb) → lead (wordOf v) ≡ v
-unfolding lead
-lead-is Transform = refl
-lead-is (Quantise Walk) = refl
-lead-is (Quantise Least) = refl
-lead-is (SubBlock Walk) = refl
-lead-is (SubBlock Least) = refl
+-- a comparison that says yes to the same bytes and to no others
+pub compared : (w v : List ℕ) (r : Bool) → (r ≡ true → w ≡ v) → (w ≡ v → r ≡ true) → sameBytes w v ≡ r
+compared w v true sound whole = rw (sound refl) (same-itself v)
+compared w v false sound whole = go (sameBytes w v) refl
+  where
+    go : (t : Bool) → sameBytes w v ≡ t → t ≡ false
+    go true q = sym (whole (same-bytes w v q))
+    go false q = refl
 
-module _ (w : List ℕ) where
-  pub named : (u : Verb) → w ≡ wordOf u → Names w (Is u)
-  named u e =
-      record {
-        sound = λ v i. let same : u ≡ v = cc in e ∙ ap wordOf same;
-        whole = λ v f. ap Is (sym (lead-is u) ∙ ap lead (sym e ∙ f) ∙ lead-is v);
-      }
+-- ---- verbs
+pub read-back : (v : Verb) → verbOf (wordOf v) ≡ Is v
+unfolding verbOf
+read-back Transform = refl
+read-back Quantise = refl
+read-back SubBlock = refl
 
-  -- a comparison with the word of v that said no
-  pub record Not (v : Verb) : Type 0 where
-    pub test : Bool
-    pub said : test ≡ false
-    pub else : w ≡ wordOf v → test ≡ true
-
-  pub unnamed : ((v : Verb) → Not v) → Names w Malformed
-  unnamed all =
-      record {
-        sound = λ v i. absurd (let no : _≡_ {A = ℕ} 0 1 = cc in let none : ⊥ = omega arith in none);
-        whole = λ v e. absurd (true≢false (sym (all v .else e) ∙ all v .said));
-      }
+pub from-its-word : (w : List ℕ) (v : Verb) → verbOf w ≡ Is v → w ≡ wordOf v
+unfolding verbOf
+from-its-word w v e =
+    go (sameBytes w (wordOf Transform)) (sameBytes w (wordOf Quantise)) (sameBytes w (wordOf SubBlock)) refl refl refl e
+  where
+    go : (a b c : Bool) → sameBytes w (wordOf Transform) ≡ a → sameBytes w (wordOf Quantise) ≡ b
+        → sameBytes w (wordOf SubBlock) ≡ c
+        → cond a (Is Transform) (cond b (Is Quantise) (cond c (Is SubBlock) Malformed)) ≡ Is v
+        → w ≡ wordOf v
+    go true b c p q r e = let is : Transform ≡ v = cc in same-bytes w (wordOf Transform) p ∙ ap wordOf is
+    go false true c p q r e = let is : Quantise ≡ v = cc in same-bytes w (wordOf Quantise) q ∙ ap wordOf is
+    go false false true p q r e = let is : SubBlock ≡ v = cc in same-bytes w (wordOf SubBlock) r ∙ ap wordOf is
+    go false false false p q r e = absurd (let no : _≡_ {A = ℕ} 0 1 = cc in let none : ⊥ = omega arith in none)

@@ -1,26 +1,29 @@
--- The word of each verb, as bytes, and what is read from a word.
-use mathlib.Core.Path.{_≡_}
+-- The word of each verb, as bytes, and which verb a word names.
+use mathlib.Core.Bool.{Bool, true, false, _&&_, cond}
 use mathlib.Core.List.{List, [], _∷_}
 use Prim.Native.Nat.{ℕ}
-use Rattle.coding.specs.declared.Mode.{Mode}
-use Rattle.coding.specs.declared.Mode.the-variants.{Walk, Least}
+use lib.Dec.{eqb}
 use Rattle.verbs.specs.declared.Verb.{Verb}
 use Rattle.verbs.specs.declared.Verb.the-variants.{Transform, Quantise, SubBlock}
 use Rattle.verbs.specs.declared.Named.{Named}
-use Rattle.verbs.specs.declared.Named.the-variants.{Is}
+use Rattle.verbs.specs.declared.Named.the-variants.{Is, Malformed}
 
--- what a verb's word ends with: nothing, or `-least`
-abbrev pub endOf : Mode → List ℕ
-endOf Walk = []
-endOf Least = 45 ∷ 108 ∷ 101 ∷ 97 ∷ 115 ∷ 116 ∷ []
-
--- `transform`; `quantise` and `subblock`, each with its end
+-- `transform`, `quantise`, `subblock`
 abbrev pub wordOf : Verb → List ℕ
 wordOf Transform = 116 ∷ 114 ∷ 97 ∷ 110 ∷ 115 ∷ 102 ∷ 111 ∷ 114 ∷ 109 ∷ []
-wordOf (Quantise m) = 113 ∷ 117 ∷ 97 ∷ 110 ∷ 116 ∷ 105 ∷ 115 ∷ 101 ∷ endOf m
-wordOf (SubBlock m) = 115 ∷ 117 ∷ 98 ∷ 98 ∷ 108 ∷ 111 ∷ 99 ∷ 107 ∷ endOf m
+wordOf Quantise = 113 ∷ 117 ∷ 97 ∷ 110 ∷ 116 ∷ 105 ∷ 115 ∷ 101 ∷ []
+wordOf SubBlock = 115 ∷ 117 ∷ 98 ∷ 98 ∷ 108 ∷ 111 ∷ 99 ∷ 107 ∷ []
 
--- a verb is read from its word, and from no other
-pub record Names (word : List ℕ) (r : Named) : Type 0 where
-  pub sound : (v : Verb) → r ≡ Is v → word ≡ wordOf v
-  pub whole : (v : Verb) → word ≡ wordOf v → r ≡ Is v
+-- whether two words have the same bytes
+unfoldable pub sameBytes : List ℕ → List ℕ → Bool
+sameBytes [] [] = true
+sameBytes [] (c ∷ v) = false
+sameBytes (b ∷ w) [] = false
+sameBytes (b ∷ w) (c ∷ v) = eqb b c && sameBytes w v
+
+unfoldable pub verbOf : List ℕ → Named
+unfolding sameBytes
+verbOf w =
+    cond (sameBytes w (wordOf Transform)) (Is Transform)
+    (cond (sameBytes w (wordOf Quantise)) (Is Quantise)
+    (cond (sameBytes w (wordOf SubBlock)) (Is SubBlock) Malformed))

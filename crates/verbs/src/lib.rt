@@ -1,13 +1,12 @@
-// The verbs of requests. Each keeps its meaning for good; one that is added has fields of its own, or those of
-// another.
+// The verbs of requests. A verb is read from its word and from no other.
 use check::same;
-use coding::Mode;
-ghost use Rattle.verbs.specs.Verbs.{Names};
+ghost use mathlib.Core.Path.{_≡_};
+ghost use Rattle.verbs.specs.Verbs.{verbOf};
 
 pub enum Verb {
     Transform,
-    Quantise(Mode),
-    SubBlock(Mode),
+    Quantise,
+    SubBlock,
 }
 
 pub enum Named {
@@ -16,22 +15,16 @@ pub enum Named {
 }
 
 pub fn read_verb(word: &[u8]) -> Named
-    ensures { λ r. ⌜ Names (now (word .entry)) r ⌝ }
+    ensures { λ r. ⌜ r ≡ verbOf (now (word .entry)) ⌝ }
 {
     if same(word, b"transform") {
         return Named::Is(Verb::Transform);
     }
     if same(word, b"quantise") {
-        return Named::Is(Verb::Quantise(Mode::Walk));
-    }
-    if same(word, b"quantise-least") {
-        return Named::Is(Verb::Quantise(Mode::Least));
+        return Named::Is(Verb::Quantise);
     }
     if same(word, b"subblock") {
-        return Named::Is(Verb::SubBlock(Mode::Walk));
-    }
-    if same(word, b"subblock-least") {
-        return Named::Is(Verb::SubBlock(Mode::Least));
+        return Named::Is(Verb::SubBlock);
     }
     Named::Malformed
 }

@@ -2,10 +2,10 @@
 // price are the definition's (specs/Walk.antt of `price`).
 use along::walk_places;
 use scaling::scale::Scale;
-use step::Walk;
 use scan::block_place;
 use scan::put_magnitude;
 use scan::scan_place;
+use step::Walk;
 use weights::prices::Prices;
 ghost use mathlib.Core.Path.{_≡_};
 ghost use Prim.Native.Nat.{_≤_, _*_};

@@ -14,29 +14,29 @@ use Rattle.coding.specs.Call as quant
 use Rattle.components.specs.declared.SubBlockAnswer.{SubBlockAnswer}
 use Rattle.components.specs.declared.SubBlockAnswer.the-variants as answers
 use Rattle.components.specs.Call as three
-use Rattle.wire.specs.Wire.{quantResult, quantWritten, threeResult, threeWritten}
+use Rattle.surface.specs.Surface.{resultOf, quantWritten, threeWritten}
 
 module _ (a : QuantAnswer) (o : Outcome Coded) (e : quant.quantOutcome a ≡ o) where
-  pub quant-coded : (c : Coded) → a ≡ quantised.Coded c → (0 ≡ quantResult o)
+  pub quant-coded : (c : Coded) → a ≡ quantised.Coded c → (0 ≡ resultOf o)
       × (0 ∷ c .count ∷ c .price ∷ [] ≡ quantWritten o)
-  quant-coded c f = let h = ap quant.quantOutcome (sym f) ∙ e in (ap quantResult h, ap quantWritten h)
+  quant-coded c f = let h = ap quant.quantOutcome (sym f) ∙ e in (ap resultOf h, ap quantWritten h)
 
   pub quant-refused : (why : Refusal) (k : Component) (n m : ℕ) → a ≡ quantised.Refused why k → n ≡ numberOf why
       → m ≡ componentOf k
-      → (n ≡ quantResult o) × (m ∷ 0 ∷ 0 ∷ [] ≡ quantWritten o)
+      → (n ≡ resultOf o) × (m ∷ 0 ∷ 0 ∷ [] ≡ quantWritten o)
   quant-refused why k n m f en em =
       let h = ap quant.quantOutcome (sym f) ∙ e in
-      (en ∙ ap quantResult h, ap (λ (x : ℕ). x ∷ 0 ∷ 0 ∷ []) em ∙ ap quantWritten h)
+      (en ∙ ap resultOf h, ap (λ (x : ℕ). x ∷ 0 ∷ 0 ∷ []) em ∙ ap quantWritten h)
 
 module _ (a : SubBlockAnswer) (o : Outcome three.Shares) (e : three.subBlockOutcome a ≡ o) where
   pub three-coded : (y u v : Coded) → a ≡ answers.Coded y u v
-      → (0 ≡ threeResult o)
+      → (0 ≡ resultOf o)
       × (0 ∷ y .count ∷ u .count ∷ v .count ∷ y .price ∷ u .price ∷ v .price ∷ [] ≡ threeWritten o)
-  three-coded y u v f = let h = ap three.subBlockOutcome (sym f) ∙ e in (ap threeResult h, ap threeWritten h)
+  three-coded y u v f = let h = ap three.subBlockOutcome (sym f) ∙ e in (ap resultOf h, ap threeWritten h)
 
   pub three-refused : (why : Refusal) (k : Component) (n m : ℕ) → a ≡ answers.Refused why k → n ≡ numberOf why
       → m ≡ componentOf k
-      → (n ≡ threeResult o) × (m ∷ 0 ∷ 0 ∷ 0 ∷ 0 ∷ 0 ∷ 0 ∷ [] ≡ threeWritten o)
+      → (n ≡ resultOf o) × (m ∷ 0 ∷ 0 ∷ 0 ∷ 0 ∷ 0 ∷ 0 ∷ [] ≡ threeWritten o)
   three-refused why k n m f en em =
       let h = ap three.subBlockOutcome (sym f) ∙ e in
-      (en ∙ ap threeResult h, ap (λ (x : ℕ). x ∷ 0 ∷ 0 ∷ 0 ∷ 0 ∷ 0 ∷ 0 ∷ []) em ∙ ap threeWritten h)
+      (en ∙ ap resultOf h, ap (λ (x : ℕ). x ∷ 0 ∷ 0 ∷ 0 ∷ 0 ∷ 0 ∷ 0 ∷ []) em ∙ ap threeWritten h)

@@ -1,11 +1,11 @@
 // The calls over flat numbers, as they cross to C and Rust: whole numbers, f64s, slices and arrays go in. A result is 0
-// or a refusal's number, and what else a call answers is written into an array.
+// or a refusal's number, and what else a call answers is written into an array. Each is the call that `surface` says
+// the numbers ask for.
 use coding::Coding;
 use coding::Mode;
 use coding::QuantAnswer;
 use components::Request;
 use components::SubBlockAnswer;
-use flat::costs_at;
 use price::Settings;
 use quantise::quant_nnz;
 use refusals::Component;
@@ -15,15 +15,14 @@ use subblock::sub_block_tq;
 use transform::TransAnswer;
 use transform::trans;
 ghost use mathlib.Core.Path.{_≡_};
-ghost use Rattle.transform.specs.Call.{called, transBuffer, transVerdict};
-ghost use Rattle.coding.specs.Call.{quantAnswer, quantBuffer};
-ghost use Rattle.components.specs.Call.{subBlockOutcome, subBlockAnswer, subBlockBuffer};
-ghost use Rattle.wire.specs.Wire.{transResult, quantAsked, quantResult, quantWritten};
-ghost use Rattle.wire.specs.Wire.{threeAsked, threeResult, threeWritten};
+ghost use Rattle.transform.specs.Call.{called};
+ghost use Rattle.coding.specs.Call.{quantOutcome};
+ghost use Rattle.components.specs.Call.{subBlockOutcome};
+ghost use Rattle.surface.specs.Surface.{resultOf, modeIn, TransLeft, codingBy, quantAsked, quantWritten, QuantLeft};
+ghost use Rattle.surface.specs.Surface.{requestBy, threeAsked, threeWritten, ThreeLeft};
 
 pub fn transform(block: &mut [i16], log2_w: usize, log2_h: usize) -> u32
-    ensures result { λ r. ⌜ r ≡ transResult (transVerdict (called (now (block .entry)) «log2_w» «log2_h»)) ⌝ }
-    ensures block { λ _. ⌜ now (block .exit) ≡ transBuffer (called (now (block .entry)) «log2_w» «log2_h») ⌝ }
+    ensures { λ r. ⌜ TransLeft (called (now (block .entry)) «log2_w» «log2_h») r (now (block .exit)) ⌝ }
 {
     match trans(block, log2_w, log2_h) {
         TransAnswer::Accepted => 0,
@@ -31,42 +30,35 @@ pub fn transform(block: &mut [i16], log2_w: usize, log2_h: usize) -> u32
     }
 }
 
-pub fn quantise(
-    block: &mut [i16],
-    log2_side: usize,
-    component: Component,
-    qp: u32,
-    lambda: f64,
-    intra_slice: u32,
-    intra_coded: u32,
-    costs: &[u64; 28],
-    answer: &mut [u64; 3],
-    mode: Mode,
-) -> u32
-    ensures result { λ r. ⌜ r ≡ quantResult
-        (quantAnswer (quantAsked mode (now (block .entry)) «log2_side» component qp lambda «intra_slice» «intra_coded»
-        (now (costs .entry)))) ⌝ }
-    ensures answer { λ _. ⌜ now (answer .exit)
-        ≡ quantWritten
-        (quantAnswer (quantAsked mode (now (block .entry)) «log2_side» component qp lambda «intra_slice» «intra_coded»
-        (now (costs .entry)))) ⌝ }
-    ensures block { λ _. ⌜ now (block .exit)
-        ≡ quantBuffer (quantAsked mode (now (block .entry)) «log2_side» component qp lambda «intra_slice» «intra_coded»
-        (now (costs .entry))) ⌝ }
+// Bit 2 of the flags.
+fn mode_of(flags: u32) -> Mode
+    ensures { λ r. ⌜ r ≡ modeIn flags ⌝ }
 {
-    let coding = Coding {
+    if flags / 4 % 2 == 1 {
+        Mode::Least
+    } else {
+        Mode::Walk
+    }
+}
+
+fn coding_of(component: Component, log2_side: usize, qp: u32, lambda: f64, flags: u32) -> Coding
+    ensures { λ r. ⌜ r ≡ codingBy component «log2_side» qp lambda flags ⌝ }
+{
+    Coding {
         log2: log2_side,
         component: component,
-        settings: Settings {
-            qp: qp,
-            lambda: lambda,
-        },
-        intra_slice: intra_slice != 0,
-        intra_coded: intra_coded != 0,
-        costs: costs_at(costs, 0),
-        mode: mode,
-    };
-    let coded = quant_nnz(block, coding);
+        settings: Settings { qp, lambda },
+        intra_slice: flags % 2 == 1,
+        intra_coded: flags / 2 % 2 == 1,
+        mode: mode_of(flags),
+    }
+}
+
+// What the quantiser answered, as its result and its answer.
+fn put_quant(coded: QuantAnswer, answer: &mut [u64; 3]) -> u32
+    ensures result { λ r. ⌜ r ≡ resultOf (quantOutcome coded) ⌝ }
+    ensures answer { λ _. ⌜ now (answer .exit) ≡ quantWritten (quantOutcome coded) ⌝ }
+{
     match coded {
         QuantAnswer::Coded(c) => {
             *answer = [0, c.count as u64, c.price];
@@ -79,9 +71,51 @@ pub fn quantise(
     }
 }
 
+pub fn quantise(
+    component: Component,
+    block: &mut [i16],
+    log2_side: usize,
+    qp: u32,
+    lambda: f64,
+    flags: u32,
+    costs: &[u64; 28],
+    answer: &mut [u64; 3],
+) -> u32
+    ensures { λ r. ⌜ QuantLeft
+        (quantAsked component (now (block .entry)) «log2_side» qp lambda flags (now (costs .entry)))
+        r (now (answer .exit)) (now (block .exit)) ⌝ }
+{
+    let coding = coding_of(component, log2_side, qp, lambda, flags);
+    put_quant(quant_nnz(block, costs, coding), answer)
+}
+
+fn request_of(log2_luma: usize, qp: &[u32; 3], lambda: &[f64; 3], run: u32, flags: u32) -> Request
+    ensures { λ r. ⌜ r ≡ requestBy «log2_luma» (now (qp .entry)) (now (lambda .entry)) run flags ⌝ }
+{
+    Request {
+        log2_luma: log2_luma,
+        y: Settings {
+            qp: qp[0],
+            lambda: lambda[0],
+        },
+        u: Settings {
+            qp: qp[1],
+            lambda: lambda[1],
+        },
+        v: Settings {
+            qp: qp[2],
+            lambda: lambda[2],
+        },
+        run: run,
+        intra_slice: flags % 2 == 1,
+        intra_coded: flags / 2 % 2 == 1,
+        mode: mode_of(flags),
+    }
+}
+
 // What the three-component call answered, as its result and its answer.
 fn put_three(coded: SubBlockAnswer, answer: &mut [u64; 7]) -> u32
-    ensures result { λ r. ⌜ r ≡ threeResult (subBlockOutcome coded) ⌝ }
+    ensures result { λ r. ⌜ r ≡ resultOf (subBlockOutcome coded) ⌝ }
     ensures answer { λ _. ⌜ now (answer .exit) ≡ threeWritten (subBlockOutcome coded) ⌝ }
 {
     match coded {
@@ -110,44 +144,14 @@ pub fn sub_block(
     qp: &[u32; 3],
     lambda: &[f64; 3],
     run: u32,
-    intra_slice: u32,
-    intra_coded: u32,
+    flags: u32,
     costs: &[u64; 28],
     answer: &mut [u64; 7],
-    mode: Mode,
 ) -> u32
-    ensures result { λ r. ⌜ r ≡ threeResult
-        (subBlockAnswer (threeAsked mode (now (buffer .entry)) «log2_luma» (now (qp .entry)) (now (lambda .entry))
-        run «intra_slice» «intra_coded» (now (costs .entry)))) ⌝ }
-    ensures answer { λ _. ⌜ now (answer .exit)
-        ≡ threeWritten
-        (subBlockAnswer (threeAsked mode (now (buffer .entry)) «log2_luma» (now (qp .entry)) (now (lambda .entry))
-        run «intra_slice» «intra_coded» (now (costs .entry)))) ⌝ }
-    ensures buffer { λ _. ⌜ now (buffer .exit)
-        ≡ subBlockBuffer (threeAsked mode (now (buffer .entry)) «log2_luma» (now (qp .entry)) (now (lambda .entry))
-        run «intra_slice» «intra_coded» (now (costs .entry))) ⌝ }
+    ensures { λ r. ⌜ ThreeLeft
+        (threeAsked (now (buffer .entry)) «log2_luma» (now (qp .entry)) (now (lambda .entry)) run flags
+        (now (costs .entry))) r (now (answer .exit)) (now (buffer .exit)) ⌝ }
 {
-    let slice = intra_slice != 0;
-    let coded = intra_coded != 0;
-    let q = Request {
-        log2_luma: log2_luma,
-        y: Settings {
-            qp: qp[0],
-            lambda: lambda[0],
-        },
-        u: Settings {
-            qp: qp[1],
-            lambda: lambda[1],
-        },
-        v: Settings {
-            qp: qp[2],
-            lambda: lambda[2],
-        },
-        run: run,
-        intra_slice: slice,
-        intra_coded: coded,
-        costs: costs_at(costs, 0),
-        mode,
-    };
-    put_three(sub_block_tq(buffer, q), answer)
+    let q = request_of(log2_luma, qp, lambda, run, flags);
+    put_three(sub_block_tq(buffer, costs, q), answer)
 }

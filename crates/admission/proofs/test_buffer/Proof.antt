@@ -14,6 +14,7 @@ use Rattle.refusals.specs.declared.Component.{Component}
 use Rattle.refusals.specs.declared.Component.the-variants.{Y, U, «V»}
 use Rattle.refusals.proofs.Prefix.{Past, untested, past, refused-past, accepted-past}
 use Rattle.transform.specs.Call.{wild, sampleFault}
+use Rattle.price.specs.Costs.{costsOf}
 use Rattle.components.specs.Call.{SubBlock, requested, bit, area, costFault, lengthFault, inTrans}
 use Rattle.components.specs.Inner.Groups.{bufferFaults}
 use Rattle.admission.specs.Inner.Tested.{Sizes, lent}
@@ -33,7 +34,7 @@ long log2 n len z h = le-ltb len (2 ^ log2 * 2 ^ log2 * 3 / 2) (omega (arith, ro
 
 -- the call that is tested, and what is past of its list, by how many that is
 abbrev call : tie.Start → SubBlock
-call s = requested (s .args .buffer .now) (s .args .q)
+call s = requested (s .args .buffer .now) (costsOf (s .args .costs .now)) (s .args .q)
 
 abbrev PastIn : ℕ → tie.Start → Type 0
 PastIn n s = Past (call s) bufferFaults (drop n bufferFaults)
@@ -47,7 +48,7 @@ unfolding bufferFaults requested costFault
 returns c = sym (refused-past untested (sym (c .before .costs-refused .ensures) ∙ c .if1 .taken))
 
 abbrev start1 : tie.Else1 → tie.Start
-start1 c = c .before .before .before
+start1 c = c .before .before
 
 costs-past : (c : tie.Else1) → PastIn 1 (start1 c)
 unfolding bufferFaults requested costFault
@@ -82,7 +83,8 @@ sample : (c : tie.Else2) (k : Component) {r t : Bool}
     → r ≡ t → inTrans k sampleFault .holds (call (start2 c)) ≡ t
 sample c =
     let a = start2 c .args in
-    sample-is (a .buffer .now) (a .q) (c .before .luma-places .result) (c .before .luma-places .ensures)
+    sample-is (a .buffer .now) (costsOf (a .costs .now)) (a .q) (c .before .luma-places .result)
+        (c .before .luma-places .ensures)
 
 sub-bad-residuals : tie.Need-sub-bad-residuals
 sub-bad-residuals c = search needs

@@ -3,7 +3,7 @@
 use Prim.Native.Nat.{_≤_, _-_}
 use borrow.Author.Count.{below-more}
 use borrow.Author.Needs.{needs}
-use Rattle.input.specs.Lines.{NoNewline}
+use Rattle.input.specs.Inner.Search.{NoNewline}
 use Rattle.input.proofs.newline_in.Statement.{statement}
 use Rattle.input.proofs.newline_in.Tie as tie
 

@@ -1,8 +1,11 @@
--- `protocol::answer_in` meets its contract: the verb ends inside the line.
+-- `protocol::answer_in` meets its contract: the verb is the line's first word, and what is behind it is the request's.
 -- Assumes nothing.
-use mathlib.Core.Path.{sym}
+use mathlib.Core.Path.{sym, ap, _∙_}
 use borrow.Author.Needs.{needs}
 use lib.Seq.{length-take-le}
+use Rattle.requests.proofs.Asked.{too-long, verb-malformed, verb-read}
+use Rattle.protocol.specs.Answer.{answerOf, answerTo}
+use Rattle.protocol.proofs.Retold.{retold}
 use Rattle.protocol.proofs.answer_in.Statement.{statement}
 use Rattle.protocol.proofs.answer_in.Tie as tie
 
@@ -10,7 +13,11 @@ put-malformed-requires : tie.Need-put-malformed-requires
 put-malformed-requires c κs = search needs
 
 returns : tie.Need-returns
-returns c = search needs
+unfolding answerTo
+returns c =
+    let test = c .before .before in
+    let start = test .before .before in
+    retold (ap answerOf (too-long (start .args .line .now) (test .if1 .taken))) (c .put-malformed .ensures)
 
 word-end-requires : tie.Need-word-end-requires
 word-end-requires c κs = search needs
@@ -30,8 +37,21 @@ enum-told c = search needs
 put-malformed-requires-2 : tie.Need-put-malformed-requires-2
 put-malformed-requires-2 c κs = search needs
 
+-- where the verb's word ended, before it was read
+abbrev ended : tie.After-read-verb → tie.After-word-end
+ended c = c .before .before
+
 returns-2 : tie.Need-returns-2
-returns-2 c = search needs
+unfolding answerTo
+returns-2 c =
+    let told = c .before .before in
+    let read = told .before .before in
+    let word = ended read in
+    retold
+    (ap answerOf
+    (verb-malformed _ (word .before .if1 .left) _ (word .word-end .ensures .2)
+    (sym (read .read-verb .ensures) ∙ told .enum-told .given .1)))
+    (c .put-malformed2 .ensures)
 
 add-answer-verb : tie.Need-add-answer-verb
 add-answer-verb c = search needs
@@ -43,7 +63,18 @@ same-length : tie.Need-same-length
 same-length c = search needs
 
 returns-3 : tie.Need-returns-3
-returns-3 c = search needs
+unfolding answerTo
+returns-3 c =
+    let answered = c .before in
+    let lent = answered .before .before in
+    let known = lent .before .before in
+    let read = known .before .before in
+    let word = ended read in
+    retold
+    (ap answerOf
+    (verb-read _ (word .before .if1 .left) _ (word .word-end .ensures .2) _
+    (sym (read .read-verb .ensures) ∙ known .verb .given .1)))
+    (answered .answer-verb .ensures)
 
 pub answer-in-spec : {M : Type 1} → statement M
 answer-in-spec =

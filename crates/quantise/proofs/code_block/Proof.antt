@@ -16,9 +16,11 @@ use Rattle.tables.specs.Scales.{forward, scaleOf}
 use Rattle.refusals.specs.Faults.{Fault}
 use Rattle.refusals.proofs.First.{First, here, later, but, end}
 use Rattle.price.specs.Level.{scaled}
-use Rattle.price.specs.Costs.{Rows}
+use Rattle.price.specs.declared.Costs.{Costs}
+use Rattle.price.specs.Costs.{costsOf, InRange, Rows}
 use Rattle.price.proofs.Rates.{costs-in-range}
 use Rattle.price.specs.Rows.{rowsOf}
+use Rattle.contexts.specs.Inner.Rows.{rowsIn}
 use Rattle.coding.specs.Block.{Quant, called, isSkipped, lambdaHere}
 use Rattle.coding.specs.Call.{quantFaults, sampleFault, levelFault, priceFault, distortionFault, largestHere}
 use Rattle.coding.specs.Call.{uncodedHere}
@@ -75,9 +77,13 @@ start-4 c = start-3 (else-3 c)
 abbrev start-5 : tie.Else5 → tie.Start
 start-5 c = start-4 (else-4 c)
 
+-- the cost tables that it is lent
+abbrev costsIn : tie.Start → Costs
+costsIn s = costsOf (s .args .costs .now)
+
 -- the call that they ask for
 abbrev asked : tie.Start → Quant
-asked s = called (s .args .block .now) (s .args .coding)
+asked s = called (s .args .block .now) (costsIn s) (s .args .coding)
 
 -- ---- what code finds, by the definition
 -- whether the block is skipped
@@ -86,7 +92,7 @@ skipped-is c =
     let s = start-walked c in
     let B = s .args .block .now in
     let limit = threshold-at c .skip-threshold in
-    skipped-here B (s .args .coding) (s .pre)
+    skipped-here B (costsIn s) (s .args .coding) (s .pre)
     ∙ ap (λ (n : ℕ). not (some (λ z. leb n (scaled (scaleOf forward (s .args .coding .settings .qp)) z)) B))
     (sym (limit .ensures .0))
     ∙ ap (λ (q : ℕ). not (some (λ z. leb (limit .result) (scaled q z)) B)) (sym (c .before .scale .ensures))
@@ -108,7 +114,7 @@ largest-is c =
     let s = start-2 (c .before) in
     let g = scale-at (c .before) .scale-of in
     let top = c .before .before .largest in
-    largest-here (s .args .block .now) (s .args .coding) (s .pre) (g .result) (g .ensures) (top .result)
+    largest-here (s .args .block .now) (costsIn s) (s .args .coding) (s .pre) (g .result) (g .ensures) (top .result)
     (top .ensures .is) ∙ sym (c .rounded .ensures .0)
 
 -- lambda·(M + 1), as code has it
@@ -128,50 +134,60 @@ sum-held c =
     let s = start-4 e4 in
     let g = scale-at (else-2 (else-3 e4)) .scale-of in
     subst (λ (n : ℕ). Held n (c .uncoded .result))
-    (sym (uncoded-here (s .args .block .now) (s .args .coding) (s .pre) (g .result) (g .ensures))) (c .uncoded .ensures)
+    (sym (uncoded-here (s .args .block .now) (costsIn s) (s .args .coding) (s .pre) (g .result) (g .ensures)))
+        (c .uncoded .ensures)
+
+-- where the prices are read
+abbrev else-5 : tie.After-prices-of → tie.Else5
+else-5 c = c .before .before .before
 
 -- the prices are the rule's
 prices-are : (c : tie.After-prices-of)
-    → (let s = start-5 (c .before .before .before) in
-    c .prices-of .result ≡ pricesOf 32768 (lambdaHere (asked s)) (s .args .coding .costs)
+    → (let s = start-5 (else-5 c) in
+    c .prices-of .result ≡ pricesOf 32768 (lambdaHere (asked s)) (costsIn s)
     (rowsOf (s .args .coding .component) (s .args .coding .«intra_coded»)))
 unfolding lambdaHere called
 prices-are c =
-    let e5 = c .before .before .before in
-    let k = start-5 e5 .args .coding in
+    let read = c .before in
+    let e5 = else-5 c in
+    let s = start-5 e5 in
+    let k = s .args .coding in
     let lambda = else-4 e5 .before .lambda-whole in
+    let rows = rowsIn (read .before .contexts-of .result) in
     c .prices-of .ensures .is
-    ∙ ap (λ (r : Rows). pricesOf 32768 (lambda .result) (k .costs) r) (c .before .contexts-of .ensures .is)
-    ∙ ap (λ (n : ℕ). pricesOf 32768 n (k .costs) (rowsOf (k .component) (k .«intra_coded»))) (lambda .ensures .is)
+    ∙ ap (λ (t : Costs). pricesOf 32768 (lambda .result) t rows) (read .costs-of .ensures)
+    ∙ ap (λ (r : Rows). pricesOf 32768 (lambda .result) (costsIn s) r) (read .before .contexts-of .ensures .is)
+    ∙ ap (λ (n : ℕ). pricesOf 32768 n (costsIn s) (rowsOf (k .component) (k .«intra_coded»))) (lambda .ensures .is)
 
 -- ---- the faults that are past: what comes first behind them comes first of all
 sample-no : (c : tie.Else2) → sampleFault .holds (asked (start-2 c)) ≡ false
 sample-no c =
     let s = start-2 c in
-    sample-here (s .args .block .now) (s .args .coding) (s .pre) false
+    sample-here (s .args .block .now) (costsIn s) (s .args .coding) (s .pre) false
     (c .before .largest .ensures .lowest ∙ ne-eqb _ 32768 (c .if2 .left))
 
 level-no : (c : tie.Else3) → levelFault .holds (asked (start-3 c)) ≡ false
 level-no c =
     let s = start-3 c in
-    level-here (s .args .block .now) (s .args .coding) (s .pre) (walked (else-1 (else-2 c))) false
+    level-here (s .args .block .now) (costsIn s) (s .args .coding) (s .pre) (walked (else-1 (else-2 c))) false
     (ap (ltb 32767) (largest-is (c .before))
     ∙ le-ltb 32767 (c .before .rounded .result) (omega (arith, c .if3 .left)))
 
 price-no : (c : tie.Else4) → priceFault .holds (asked (start-4 c)) ≡ false
 price-no c =
     let s = start-4 c in
-    price-here (s .args .block .now) (s .args .coding) (s .pre) (walked (else-1 (else-2 (else-3 c)))) false
+    price-here (s .args .block .now) (costsIn s) (s .args .coding) (s .pre) (walked (else-1 (else-2 (else-3 c)))) false
     (ap (ltb (2 ^ 41)) (weight-is (c .before)) ∙ le-ltb (2 ^ 41) _ (c .if4 .left))
 
 distortion-no : (c : tie.Else5) → distortionFault .holds (asked (start-5 c)) ≡ false
 distortion-no c =
     let s = start-5 c in
-    distortion-here (s .args .block .now) (s .args .coding) (s .pre) (walked (else-1 (else-2 (else-3 (else-4 c)))))
+    distortion-here (s .args .block .now) (costsIn s) (s .args .coding) (s .pre) (walked (else-1 (else-2 (else-3
+        (else-4 c)))))
     false (le-ltb (2 ^ 60) _ (held-is _ _ (sum-held (c .before)) (c .if5 .left) .1))
 
 past-1 : (c : tie.Else1) {f : Fault Quant} → (let q = asked (start-1 c) in First q f late → First q f quantFaults)
-past-1 c h = let s = start-1 c in past-early (s .args .block .now) (s .args .coding) (s .pre) h
+past-1 c h = let s = start-1 c in past-early (s .args .block .now) (costsIn s) (s .args .coding) (s .pre) h
 
 past-2 : (c : tie.Else2) {f : Fault Quant} → (let q = asked (start-2 c) in
     First q f (levelFault ∷ priceFault ∷ distortionFault ∷ []) → First q f quantFaults)
@@ -216,7 +232,8 @@ returns c =
     lowest-reaches (limit .result) (q .result)
     (omega (arith, limit .ensures .2, q .ensures, scale-range (s .args .coding .settings .qp)))
     (s .args .block .now) (sym (asks .is-walked .ensures) ∙ not-true _ (then .if1 .taken)) in
-    let a = skipped-answer (s .args .block .now) (s .args .coding) (s .pre) (skipped-is asks ∙ then .if1 .taken) none in
+    let a = skipped-answer (s .args .block .now) (costsIn s) (s .args .coding) (s .pre) (skipped-is asks
+        ∙ then .if1 .taken) none in
     (sym (a .0), c .before .clear .ensures ∙ sym (a .1))
 
 scale-of-requires : tie.Need-scale-of-requires
@@ -233,7 +250,8 @@ unfolding called sampleFault
 returns-2 c =
     let e1 = scale-there (c .before) .before in
     let s = start-1 e1 in
-    let e = refused-answer (asked s) (past-1 e1 (here (sample-here (s .args .block .now) (s .args .coding) (s .pre) true
+    let e = refused-answer (asked s) (past-1 e1 (here (sample-here (s .args .block .now) (costsIn s)
+        (s .args .coding) (s .pre) true
     (c .before .largest .ensures .lowest ∙ eq-eqb _ 32768 (c .if2 .taken))))) in
     (sym (e .0), sym (e .1))
 
@@ -248,7 +266,8 @@ unfolding called levelFault
 returns-3 c =
     let e2 = c .before .before in
     let s = start-2 e2 in
-    let e = refused-answer (asked s) (past-2 e2 (here (level-here (s .args .block .now) (s .args .coding) (s .pre)
+    let e = refused-answer (asked s) (past-2 e2 (here (level-here (s .args .block .now) (costsIn s) (s .args .coding)
+        (s .pre)
     (walked (else-1 e2)) true (ap (ltb 32767) (largest-is (c .before)) ∙ lt-ltb 32767 _ (c .if3 .taken))))) in
     (sym (e .0), sym (e .1))
 
@@ -276,7 +295,8 @@ unfolding called priceFault
 returns-4 c =
     let e3 = c .before .before in
     let s = start-3 e3 in
-    let e = refused-answer (asked s) (past-3 e3 (here (price-here (s .args .block .now) (s .args .coding) (s .pre)
+    let e = refused-answer (asked s) (past-3 e3 (here (price-here (s .args .block .now) (costsIn s) (s .args .coding)
+        (s .pre)
     (walked (else-1 (else-2 e3))) true (ap (ltb (2 ^ 41)) (weight-is (c .before))
     ∙ lt-ltb (2 ^ 41) _ (c .if4 .taken))))) in
     (sym (e .0), sym (e .1))
@@ -298,19 +318,24 @@ unfolding called distortionFault
 returns-5 c =
     let e4 = c .before .before .before in
     let s = start-4 e4 in
-    let e = refused-answer (asked s) (past-4 e4 (here (distortion-here (s .args .block .now) (s .args .coding) (s .pre)
+    let e = refused-answer (asked s) (past-4 e4 (here (distortion-here (s .args .block .now) (costsIn s)
+        (s .args .coding) (s .pre)
     (walked (else-1 (else-2 (else-3 e4)))) true
     (lt-ltb (2 ^ 60) _ (held-beyond _ _ (sum-held (c .before)) (c .if5 .taken)))))) in
     (sym (e .0), sym (e .1))
+
+costs-of-requires : tie.Need-costs-of-requires
+costs-of-requires c κs = search needs
 
 contexts-of-requires : tie.Need-contexts-of-requires
 contexts-of-requires c κs = search needs
 
 prices-of-requires : tie.Need-prices-of-requires
 prices-of-requires c κs =
-    let e5 = c .before .before in (
-      costs-in-range (start-5 e5 .pre .costs),
-      c .contexts-of .ensures .inside,
+    let e5 = c .before .before in
+    let s = start-5 e5 in (
+      subst InRange (sym (c .costs-of .ensures)) (costs-in-range (s .pre .costs)),
+      c .before .contexts-of .ensures .inside,
       else-4 e5 .before .lambda-whole .ensures .greatest .within,
     )
 
@@ -318,7 +343,7 @@ code-levels-requires : tie.Need-code-levels-requires
 code-levels-requires c κs =
     let priced = c .before in
     let p = priced .prices-of in
-    let e5 = priced .before .before .before in
+    let e5 = else-5 priced in
     let e4 = else-4 e5 in
     let e3 = else-3 e4 in
     let e2 = else-2 e3 in
@@ -329,7 +354,9 @@ code-levels-requires c κs =
     let m = e3 .before .rounded in
     let lambda = e4 .before .lambda-whole in
     let d = held-is _ _ (sum-held (e5 .before)) (e5 .if5 .left) in
-    let each = each-small 32768 _ (s .args .coding .costs) _ _ (costs-in-range (s .pre .costs)) (p .ensures .is) in (
+    let each = each-small 32768 _ (costsIn s) _ _ (costs-in-range (s .pre .costs)) (p .ensures .is
+    ∙ ap (λ (t : Costs). pricesOf 32768 (lambda .result) t (rowsIn (priced .before .before .contexts-of .result)))
+    (priced .before .costs-of .ensures)) in (
       s .pre .low,
       s .pre .high,
       record {
@@ -341,7 +368,8 @@ code-levels-requires c κs =
             (lambda .result) (m .result) (m .ensures .0) (e3 .if3 .left)
             (omega (arith, e4 .if4 .left, add-one (m .result))) each;
         few = all-few B (top .result) (top .ensures .is) (few e2);
-        is = d .0 ∙ uncoded-is B (s .args .coding) (s .pre) (g .result) (g .ensures) (p .result) (prices-are priced);
+        is = d .0 ∙ uncoded-is B (costsIn s) (s .args .coding) (s .pre) (g .result) (g .ensures) (p .result)
+            (prices-are priced);
         small = e5 .if5 .left;
       },
     )
@@ -353,14 +381,15 @@ returns-6 : tie.Need-returns-6
 returns-6 c =
     let coded = c .before in
     let priced = coded .before .before in
-    let e5 = priced .before .before .before in
+    let e5 = else-5 priced in
     let e4 = else-4 e5 in
     let e3 = else-3 e4 in
     let e2 = else-2 e3 in
     let s = start-5 e5 in
     let g = scale-at e2 .scale-of in
     let a =
-    coded-answer (s .args .block .now) (s .args .coding) (s .pre) (g .result) (g .ensures) (walked (else-1 e2))
+    coded-answer (s .args .block .now) (costsIn s) (s .args .coding) (s .pre) (g .result) (g .ensures) (walked
+        (else-1 e2))
     (but (sample-no e2) (but (level-no e3) (but (price-no e4) (but (distortion-no e5) end))))
     (priced .prices-of .result) (prices-are priced) _ _ (coded .code-levels .ensures) in
     (sym (a .0), sym (a .1))
@@ -391,6 +420,7 @@ code-block-spec =
     same-length-5
     returns-5
     contexts-of-requires
+    costs-of-requires
     prices-of-requires
     code-levels-requires
     same-length-6

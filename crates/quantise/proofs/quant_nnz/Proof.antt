@@ -8,6 +8,8 @@ use native.Mathlib.Nat.{two-mul}
 use native.Mathlib.Omega.{arith}
 use lib.Pow.{pow-add}
 use lib.ListN.{length, take, drop}
+use Rattle.price.specs.declared.Costs.{Costs}
+use Rattle.price.specs.Costs.{costsOf}
 use lib.Seq.{length-take-le}
 use lib.IntN.{ℤ}
 use borrow.Author.Needs.{needs}
@@ -36,7 +38,7 @@ abbrev else-2 : tie.Else3 → tie.Else2
 else-2 c = c .before .before
 
 abbrev else-3 : tie.Else4 → tie.Else3
-else-3 c = c .before .before .before
+else-3 c = c .before .before
 
 abbrev else-4 : tie.Else5 → tie.Else4
 else-4 c = c .before .before
@@ -56,8 +58,12 @@ start-4 c = start-3 (else-3 c)
 abbrev start-5 : tie.Else5 → tie.Start
 start-5 c = start-4 (else-4 c)
 
+-- the cost tables that it is lent
+abbrev costsIn : tie.Start → Costs
+costsIn s = costsOf (s .args .costs .now)
+
 abbrev asked : tie.Start → Quant
-asked s = called (s .args .block .now) (s .args .coding)
+asked s = called (s .args .block .now) (costsIn s) (s .args .coding)
 
 -- ---- the faults that are past: each is said once, and what comes first behind it comes first of all
 sided : (c : tie.Else1) → (let l = start-1 c .args .coding .log2 in (1 ≤ l) × (l ≤ mostLog2))
@@ -68,25 +74,26 @@ past-1 : (c : tie.Else1) {f : Fault Quant} → (let q = asked (start-1 c) in
 unfolding quantFaults
 past-1 c h =
     let s = start-1 c in
-    later (side-test (s .args .block .now) (s .args .coding) false (sym (c .before .no-side .ensures) ∙ c .if1 .left)) h
+    later (side-test (s .args .block .now) (costsIn s) (s .args .coding) false (sym (c .before .no-side .ensures)
+        ∙ c .if1 .left)) h
 
 past-2 : (c : tie.Else2) {f : Fault Quant} → (let q = asked (start-2 c) in
     First q f (lambdaFault ∷ costFault ∷ lengthFault ∷ late) → First q f quantFaults)
-past-2 c h = let s = start-2 c in past-1 (else-1 c) (later (qp-right (s .args .block .now) (s .args .coding)
+past-2 c h = let s = start-2 c in past-1 (else-1 c) (later (qp-right (s .args .block .now) (costsIn s) (s .args .coding)
     (c .if2 .left)) h)
 
 past-3 : (c : tie.Else3) {f : Fault Quant} → (let q = asked (start-3 c) in
     First q f (costFault ∷ lengthFault ∷ late) → First q f quantFaults)
 past-3 c h =
     let s = start-3 c in
-    past-2 (else-2 c) (later (lambda-test (s .args .block .now) (s .args .coding) false
+    past-2 (else-2 c) (later (lambda-test (s .args .block .now) (costsIn s) (s .args .coding) false
     (sym (c .before .lambda-refused .ensures) ∙ c .if3 .left)) h)
 
 past-4 : (c : tie.Else4) {f : Fault Quant} → (let q = asked (start-4 c) in
     First q f (lengthFault ∷ late) → First q f quantFaults)
 past-4 c h =
     let s = start-4 c in
-    past-3 (else-3 c) (later (cost-test (s .args .block .now) (s .args .coding) false
+    past-3 (else-3 c) (later (cost-test (s .args .block .now) (costsIn s) (s .args .coding) false
     (sym (c .before .costs-refused .ensures) ∙ c .if4 .left)) h)
 
 -- ---- the goals
@@ -97,7 +104,7 @@ returns : tie.Need-returns
 unfolding called quantFaults sideFault
 returns c =
     let s = c .before .before in
-    let e = refused-answer (asked s) (here (side-test (s .args .block .now) (s .args .coding) true
+    let e = refused-answer (asked s) (here (side-test (s .args .block .now) (costsIn s) (s .args .coding) true
     (sym (c .before .no-side .ensures) ∙ c .if1 .taken))) in
     (sym (e .0), sym (e .1))
 
@@ -106,7 +113,7 @@ unfolding called qpFault
 returns-2 c =
     let e1 = c .before .before .before in
     let s = start-1 e1 in
-    let e = refused-answer (asked s) (past-1 e1 (here (qp-high (s .args .block .now) (s .args .coding)
+    let e = refused-answer (asked s) (past-1 e1 (here (qp-high (s .args .block .now) (costsIn s) (s .args .coding)
     (c .if2 .taken)))) in
     (sym (e .0), sym (e .1))
 
@@ -118,7 +125,8 @@ unfolding called lambdaFault
 returns-3 c =
     let e2 = c .before .before in
     let s = start-2 e2 in
-    let e = refused-answer (asked s) (past-2 e2 (here (lambda-test (s .args .block .now) (s .args .coding) true
+    let e = refused-answer (asked s) (past-2 e2 (here (lambda-test (s .args .block .now) (costsIn s)
+        (s .args .coding) true
     (sym (c .before .lambda-refused .ensures) ∙ c .if3 .taken)))) in
     (sym (e .0), sym (e .1))
 
@@ -128,9 +136,10 @@ costs-refused-requires c κs = search needs
 returns-4 : tie.Need-returns-4
 unfolding called costFault
 returns-4 c =
-    let e3 = c .before .before .before in
+    let e3 = c .before .before in
     let s = start-3 e3 in
-    let e = refused-answer (asked s) (past-3 e3 (here (cost-test (s .args .block .now) (s .args .coding) true
+    let e = refused-answer (asked s) (past-3 e3 (here (cost-test (s .args .block .now) (costsIn s)
+        (s .args .coding) true
     (sym (c .before .costs-refused .ensures) ∙ c .if4 .taken)))) in
     (sym (e .0), sym (e .1))
 
@@ -155,7 +164,7 @@ unfolding called lengthFault
 returns-5 c =
     let e4 = c .before .before in
     let s = start-4 e4 in
-    let low = length-low (s .args .block .now) (s .args .coding)
+    let low = length-low (s .args .block .now) (costsIn s) (s .args .coding)
     (omega (arith, c .if5 .taken, size-is (s .args .coding .log2) (few e4))) in
     let e = refused-answer (asked s) (past-4 e4 (here low)) in
     (sym (e .0), sym (e .1))
@@ -195,13 +204,13 @@ returns-6 c =
     let n = 1 * 2 ^ (2 * s .args .coding .log2) % 18446744073709551616 in
     let e = size-is (s .args .coding .log2) (few (else-4 e5)) in
     let room : 2 ^ (s .args .coding .log2) * 2 ^ (s .args .coding .log2) ≤ length B = omega (arith, e5 .if5 .left) in
-    let of : ℕ → Quant = λ m. called (take m B) (s .args .coding) in (
+    let of : ℕ → Quant = λ m. called (take m B) (costsIn s) (s .args .coding) in (
       coded .code-block .ensures .0
           ∙ ap (λ (m : ℕ). quantAnswer (of m)) e
-          ∙ surplus-untested B (s .args .coding) room,
+          ∙ surplus-untested B (costsIn s) (s .args .coding) room,
       ap (λ (l : List ℤ). l ++ drop n B) (coded .code-block .ensures .1)
           ∙ ap (λ (m : ℕ). quantBuffer (of m) ++ drop m B) e
-          ∙ surplus-carried B (s .args .coding) room,
+          ∙ surplus-carried B (costsIn s) (s .args .coding) room,
     )
 
 pub quant-nnz-spec : {M : Type 1} → statement M

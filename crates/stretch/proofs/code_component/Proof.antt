@@ -8,6 +8,7 @@ use native.Mathlib.Omega.{arith}
 use borrow.Author.Needs.{needs}
 use Rattle.refusals.specs.Faults.{passed}
 use Rattle.transform.specs.Call as trans
+use Rattle.price.specs.Costs.{costsOf}
 use Rattle.components.specs.Call.{bit}
 use Rattle.stretch.specs.Inner.Part.{partAnswer, partLeft}
 use Rattle.stretch.proofs.OneComponent.{trans-passes, part-coded}
@@ -19,7 +20,7 @@ abbrev transformed : tie.After-quant-nnz → tie.After-trans
 transformed c = let accepted = c .before .before in accepted .before .before .before
 
 abbrev settled : tie.After-trans → tie.After-settings-of
-settled c = c .before .before .before
+settled c = c .before .before
 
 abbrev begun : tie.After-trans → tie.Then1
 begun c = settled c .before .before
@@ -63,7 +64,8 @@ returns c =
     let a = s .args in
     let e : trans.transOutcome (t .trans .result) ≡ passed =
     t .trans .ensures .0
-    ∙ trans-passes (a .component) (a .q) (a .part .now) (s .pre) (is-run (begun t)) (log2 .result) (log2 .ensures) in
+    ∙ trans-passes (a .component) (costsOf (a .costs .now)) (a .q) (a .part .now) (s .pre) (is-run (begun t))
+        (log2 .result) (log2 .ensures) in
     let g = sym (ap trans.transOutcome (refused .t .given .1)) ∙ e in
     let z : _≡_ {A = ℕ} 0 1 = cc in
     absurd (let no : ⊥ = omega arith in no)
@@ -79,8 +81,8 @@ returns-2 c =
     let s = start (begun t) in
     let a = s .args in
     let coded = c .before .quant-nnz in
-    part-coded (a .component) (a .q) (a .part .now) (s .pre) (is-run (begun t)) _ _ refl refl refl refl refl
-    (log2 .ensures) (settings .ensures) (t .trans .ensures .1) _ _ (coded .ensures .0) (coded .ensures .1)
+    part-coded (a .component) (costsOf (a .costs .now)) (a .q) (a .part .now) (s .pre) (is-run (begun t)) _ _ refl refl
+    refl refl (log2 .ensures) (settings .ensures) (t .trans .ensures .1) _ _ (coded .ensures .0) (coded .ensures .1)
 
 returns-3 : tie.Need-returns-3
 unfolding partAnswer partLeft

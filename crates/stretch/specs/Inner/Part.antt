@@ -14,6 +14,7 @@ use Rattle.refusals.specs.Faults.{Outcome}
 use Rattle.transform.specs.Coefficients.{coefficients}
 use Rattle.transform.specs.Call.{wild}
 use Rattle.price.specs.Lambda.{lambdaRefused}
+use Rattle.price.specs.declared.Costs.{Costs}
 use Rattle.price.specs.Costs.{costRefused}
 use Rattle.coding.specs.declared.Coded.{Coded}
 use Rattle.coding.specs.declared.Coding.{Coding}
@@ -36,28 +37,27 @@ codingOf k q =
       settings = setOf k q;
       «intra_slice» = q .«intra_slice»;
       «intra_coded» = q .«intra_coded»;
-      costs = q .costs;
       mode = q .mode;
     }
 
-unfoldable pub quantIn : Component → Request → List ℤ → Quant
+unfoldable pub quantIn : Component → Costs → Request → List ℤ → Quant
 unfolding coefficients called
-quantIn k q r = called (coefficients r (log2In k q) (log2In k q)) (codingOf k q)
+quantIn k t q r = called (coefficients r (log2In k q) (log2In k q)) t (codingOf k q)
 
 -- the tests before it have passed
-pub record Ready (k : Component) (q : Request) (r : List ℤ) : Type 0 where
+pub record Ready (k : Component) (t : Costs) (q : Request) (r : List ℤ) : Type 0 where
   pub low : 2 ≤ q .«log2_luma»
   pub high : q .«log2_luma» ≤ mostLog2
   pub long : length r ≡ 2 ^ log2In k q * 2 ^ log2In k q
-  pub costs : costRefused (q .costs) ≡ false
+  pub costs : costRefused t ≡ false
   pub qp : bit k (q .run) ≡ true → ltb 63 (setOf k q .qp) ≡ false
   pub lambda : bit k (q .run) ≡ true → lambdaRefused (setOf k q .lambda) ≡ false
   pub tame : bit k (q .run) ≡ true → some wild r ≡ false
 
-unfoldable pub partAnswer : Component → Request → List ℤ → Outcome Coded
+unfoldable pub partAnswer : Component → Costs → Request → List ℤ → Outcome Coded
 unfolding quantAnswer quantIn
-partAnswer k q r = let a = quantAnswer (quantIn k q r) in cond (bit k (q .run)) a (coded 0 0)
+partAnswer k t q r = let a = quantAnswer (quantIn k t q r) in cond (bit k (q .run)) a (coded 0 0)
 
-unfoldable pub partLeft : Component → Request → List ℤ → List ℤ
+unfoldable pub partLeft : Component → Costs → Request → List ℤ → List ℤ
 unfolding quantBuffer quantIn
-partLeft k q r = let after = quantBuffer (quantIn k q r) in cond (bit k (q .run)) after r
+partLeft k t q r = let after = quantBuffer (quantIn k t q r) in cond (bit k (q .run)) after r

@@ -6,6 +6,7 @@ use mathlib.Core.List.{List}
 use Prim.Native.Nat.{_+_, _/_}
 use borrow.Author.Needs.{needs}
 use lib.IntN.{ℤ}
+use Rattle.price.specs.Costs.{costsOf}
 use Rattle.turns.specs.Inner.Parts.{AllReady}
 use Rattle.subblock.proofs.Passed.{room-of, all-ready}
 use Rattle.subblock.proofs.Finished.{front, finished-answer, finished-coded, finished-refused}
@@ -40,7 +41,8 @@ part-copy-start c = search needs
 part-copy-end : tie.Need-part-copy-end
 part-copy-end c =
     let s = c .before in
-    room-of (s .args .buffer .now) (s .args .q) (s .args .n) (s .pre .sizes) (s .pre .passed .settings)
+    room-of (s .args .buffer .now) (costsOf (s .args .costs .now)) (s .args .q) (s .args .n) (s .pre .sizes)
+        (s .pre .passed .settings)
     (s .pre .passed .buffer)
 
 copy-requires : tie.Need-copy-requires
@@ -51,9 +53,10 @@ code-parts-requires c κs =
     let f = c .before .before in
     let s = start f in
     subst
-    (λ (l : List ℤ). AllReady (s .args .q) (s .args .n) l)
+    (λ (l : List ℤ). AllReady (costsOf (s .args .costs .now)) (s .args .q) (s .args .n) l)
     (sym (front (s .args .buffer .now) _ (s .args .n + s .args .n / 4 + s .args .n / 4) (f .copy .ensures)))
-    (all-ready (s .args .buffer .now) (s .args .q) (s .args .n) (s .pre .sizes) (s .pre .passed .settings)
+    (all-ready (s .args .buffer .now) (costsOf (s .args .costs .now)) (s .args .q) (s .args .n) (s .pre .sizes)
+        (s .pre .passed .settings)
     (s .pre .passed .buffer))
 
 enum-told : tie.Need-enum-told
@@ -64,7 +67,7 @@ write-back-requires c κs =
     let s = start (filled (coded (written c))) in (
       s .pre .sizes .small,
       search needs,
-      room-of (s .args .buffer .now) (s .args .q) (s .args .n) (s .pre .sizes)
+      room-of (s .args .buffer .now) (costsOf (s .args .costs .now)) (s .args .q) (s .args .n) (s .pre .sizes)
           (s .pre .passed .settings) (s .pre .passed .buffer),
     )
 
@@ -79,19 +82,21 @@ same-length-2 c = search needs
 
 returns : tie.Need-returns
 returns c =
-    let t = written (c .before .before) in
-    let r = coded t in
+    let w = written (c .before .before) in
+    let r = coded w in
     let f = filled r in
     let s = start f in
     let b = s .args .buffer .now in
+    let t = costsOf (s .args .costs .now) in
     let q = s .args .q in
     let n = s .args .n in
     let e = f .copy .ensures in
     let p = r .code-parts .ensures in
-    let g = t .enum-told .given in (
-      finished-answer b q n (s .pre .sizes) (s .pre .passed) _ _ _ e p,
+    let g = w .enum-told .given in (
+      finished-answer b t q n (s .pre .sizes) (s .pre .passed) _ _ _ e p,
       c .before .write-back .ensures
-          ∙ sym (finished-coded b q n (s .pre .sizes) (s .pre .passed) _ _ _ e p (g .0 .0) (g .0 .1 .0) (g .0 .1 .1 .0)
+          ∙ sym (finished-coded b t q n (s .pre .sizes) (s .pre .passed) _ _ _ e p (g .0 .0) (g .0 .1 .0)
+              (g .0 .1 .1 .0)
           (g .1)),
     )
 
@@ -107,13 +112,14 @@ returns-2 c =
     let f = filled r in
     let s = start f in
     let b = s .args .buffer .now in
+    let t = costsOf (s .args .costs .now) in
     let q = s .args .q in
     let n = s .args .n in
     let e = f .copy .ensures in
     let p = r .code-parts .ensures in
     let g = c .enum-told2 .given in (
-      finished-answer b q n (s .pre .sizes) (s .pre .passed) _ _ _ e p,
-      sym (finished-refused b q n (s .pre .sizes) (s .pre .passed) _ _ _ e p (g .0 .0) (g .0 .1 .0) (g .1)),
+      finished-answer b t q n (s .pre .sizes) (s .pre .passed) _ _ _ e p,
+      sym (finished-refused b t q n (s .pre .sizes) (s .pre .passed) _ _ _ e p (g .0 .0) (g .0 .1 .0) (g .1)),
     )
 
 pub code-in-spec : {M : Type 1} → statement M

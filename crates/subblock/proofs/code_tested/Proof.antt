@@ -1,12 +1,14 @@
 -- `subblock::code_tested` meets its contract: the room is long enough for every accepted side.
 -- Assumes nothing.
 use borrow.Author.Needs.{needs}
+use Rattle.price.specs.Costs.{costsOf}
 use Rattle.subblock.proofs.Passed.{log2-fine}
 use Rattle.subblock.proofs.code_tested.Statement.{statement}
 use Rattle.subblock.proofs.code_tested.Tie as tie
 
 luma-places-requires : tie.Need-luma-places-requires
-luma-places-requires c κs = log2-fine (c .args .buffer .now) (c .args .q) (c .pre .settings)
+luma-places-requires c κs = log2-fine (c .args .buffer .now) (costsOf (c .args .costs .now)) (c .args .q)
+    (c .pre .settings)
 
 add-v-end : tie.Need-add-v-end
 add-v-end c = search needs

@@ -3,6 +3,7 @@
 -- Assumes nothing.
 use mathlib.Core.Path.{_≡_, sym, ap, _∙_}
 use Rattle.refusals.specs.Faults.{accepted, passed, verdict}
+use Rattle.price.specs.Costs.{costsOf}
 use Rattle.components.specs.Call.{SubBlock, requested}
 use Rattle.components.specs.Inner.Groups.{settingsFaults}
 use Rattle.admission.specs.Inner.Tested.{verdictOf}
@@ -17,11 +18,12 @@ abbrev start : tie.After-enum-told → tie.Start
 start c = c .before .before .before
 
 abbrev call : tie.Start → SubBlock
-call s = requested (s .args .buffer .now) (s .args .q)
+call s = requested (s .args .buffer .now) (costsOf (s .args .costs .now)) (s .args .q)
 
 settings-passed : (c : tie.After-enum-told) → verdict settingsFaults (call (start c)) ≡ passed
 settings-passed c =
-    sym (c .before .before .test-settings .ensures (start c .args .buffer .now)) ∙ ap verdictOf (c .enum-told .given .1)
+    sym (c .before .before .test-settings .ensures (start c .args .buffer .now) (costsOf
+        (start c .args .costs .now))) ∙ ap verdictOf (c .enum-told .given .1)
 
 test-settings-requires : tie.Need-test-settings-requires
 test-settings-requires c κs = search needs
@@ -33,7 +35,8 @@ returns : tie.Need-returns
 returns c =
     let t = c .before .before .before in
     let a = t .before .args in
-    settings-refused (a .buffer .now) (a .q) _ _ (sym (t .test-settings .ensures (a .buffer .now))
+    settings-refused (a .buffer .now) (costsOf (a .costs .now)) (a .q) _ _ (sym (t .test-settings .ensures
+        (a .buffer .now) (costsOf (a .costs .now)))
     ∙ ap verdictOf (c .before .first .given .1))
 
 enum-told : tie.Need-enum-told
@@ -42,7 +45,7 @@ enum-told c = search needs
 test-buffer-requires : tie.Need-test-buffer-requires
 test-buffer-requires c κs =
     let a = start (c .before) .args in
-    log2-fine (a .buffer .now) (a .q) (settings-passed (c .before))
+    log2-fine (a .buffer .now) (costsOf (a .costs .now)) (a .q) (settings-passed (c .before))
 
 enum-known-second : tie.Need-enum-known-second
 enum-known-second c = search needs
@@ -55,7 +58,7 @@ returns-2 c =
     let u = c .before .before .before in
     let e = u .before .before in
     let a = start e .args in
-    buffer-refused (a .buffer .now) (a .q) _ _ (settings-passed e)
+    buffer-refused (a .buffer .now) (costsOf (a .costs .now)) (a .q) _ _ (settings-passed e)
     (sym (u .test-buffer .ensures) ∙ ap verdictOf (c .before .second .given .1))
 
 enum-told-2 : tie.Need-enum-told-2

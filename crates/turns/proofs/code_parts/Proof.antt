@@ -5,6 +5,7 @@ use mathlib.Core.Path.{_≡_, refl, ap, _∙_}
 use native.Mathlib.Omega.{arith}
 use borrow.Author.Needs.{needs}
 use Rattle.refusals.specs.declared.Component.the-variants.{Y, U, «V»}
+use Rattle.price.specs.Costs.{costsOf}
 use Rattle.coding.specs.Call as quant
 use Rattle.admission.proofs.Stretches.{lent-is}
 use Rattle.stretch.specs.Inner.Part.{partAnswer}
@@ -38,31 +39,34 @@ start-v c = start-u (u-before-v c)
 -- ---- what each was given is its residuals, and what it answered is what is said of them
 y-answers : (c : tie.After-code-component)
     → (let a = start c .args in
-    quant.quantOutcome (c .code-component .result) ≡ answerOf (a .q) (a .n) (a .room .now) Y)
+    quant.quantOutcome (c .code-component .result) ≡ answerOf (costsOf (a .costs .now)) (a .q) (a .n) (a .room .now) Y)
 y-answers c =
     let a = start c .args in
-    c .code-component .ensures .0 ∙ ap (partAnswer Y (a .q)) (lent-is Y (a .n) (a .room .now))
+    c .code-component .ensures .0 ∙ ap (partAnswer Y (costsOf (a .costs .now)) (a .q)) (lent-is Y (a .n) (a .room .now))
 
 u-answers : (c : tie.After-code-component2)
     → (let a = start-u c .args in
-    quant.quantOutcome (c .code-component2 .result) ≡ answerOf (a .q) (a .n) (a .room .now) U)
+    quant.quantOutcome (c .code-component2 .result) ≡ answerOf (costsOf (a .costs .now)) (a .q) (a .n) (a .room .now) U)
 u-answers c =
     let s = start-u c in
     let a = s .args in
     c .code-component2 .ensures .0
-    ∙ ap (partAnswer U (a .q))
-    (second-is (a .q) (a .n) (a .room .now) (s .pre) _ (y-before-u c .code-component .ensures .1))
+    ∙ ap (partAnswer U (costsOf (a .costs .now)) (a .q))
+    (second-is (costsOf (a .costs .now)) (a .q) (a .n) (a .room .now) (s .pre) _
+        (y-before-u c .code-component .ensures .1))
 
 v-answers : (c : tie.After-code-component3)
     → (let a = start-v c .args in
-    quant.quantOutcome (c .code-component3 .result) ≡ answerOf (a .q) (a .n) (a .room .now) «V»)
+    quant.quantOutcome (c .code-component3 .result) ≡ answerOf (costsOf (a .costs .now)) (a .q) (a .n)
+        (a .room .now) «V»)
 v-answers c =
     let s = start-v c in
     let a = s .args in
     let u = u-before-v c in
     c .code-component3 .ensures .0
-    ∙ ap (partAnswer «V» (a .q))
-    (third-is (a .q) (a .n) (a .room .now) (s .pre) _ (y-before-u u .code-component .ensures .1) _
+    ∙ ap (partAnswer «V» (costsOf (a .costs .now)) (a .q))
+    (third-is (costsOf (a .costs .now)) (a .q) (a .n) (a .room .now) (s .pre) _
+        (y-before-u u .code-component .ensures .1) _
     (u .code-component2 .ensures .1))
 
 -- ---- Y
@@ -82,7 +86,8 @@ part-code-component-end : tie.Need-part-code-component-end
 part-code-component-end c = omega (arith, c .pre .long)
 
 code-component-requires : tie.Need-code-component-requires
-code-component-requires c κs = let s = c .before in first-ready (s .args .q) (s .args .n) (s .args .room .now) (s .pre)
+code-component-requires c κs = let s = c .before in first-ready (costsOf (s .args .costs .now)) (s .args .q)
+    (s .args .n) (s .args .room .now) (s .pre)
 
 enum-known-answer-y : tie.Need-enum-known-answer-y
 enum-known-answer-y c = search needs
@@ -98,7 +103,8 @@ returns c =
     let answer = c .before in
     let y = answer .before .before .before in
     let a = start y .args in
-    refused-parted (a .q) (a .n) (a .room .now) _ _ _ _ _ _ (said (y-answers y) (answer .answer-y2 .given .1)) refl
+    refused-parted (costsOf (a .costs .now)) (a .q) (a .n) (a .room .now) _ _ _ _ _ _ (said (y-answers y)
+        (answer .answer-y2 .given .1)) refl
     refl refl
 
 -- ---- U
@@ -118,7 +124,8 @@ code-component-requires-2 : tie.Need-code-component-requires-2
 code-component-requires-2 c κs =
     let y = y-done (c .before) in
     let s = start y in
-    second-ready (s .args .q) (s .args .n) (s .args .room .now) (s .pre) _ (y .code-component .ensures .1)
+    second-ready (costsOf (s .args .costs .now)) (s .args .q) (s .args .n) (s .args .room .now) (s .pre) _
+        (y .code-component .ensures .1)
 
 enum-known-answer-u : tie.Need-enum-known-answer-u
 enum-known-answer-u c = search needs
@@ -134,7 +141,7 @@ returns-2 c =
     let answer = c .before in
     let u = answer .before .before .before in
     let a = start-u u .args in
-    refused-parted (a .q) (a .n) (a .room .now) _ _ _ _ _ _
+    refused-parted (costsOf (a .costs .now)) (a .q) (a .n) (a .room .now) _ _ _ _ _ _
     (said (y-answers (y-before-u u)) (u .before .before .before .answer-y .given .1))
     (said (u-answers u) (answer .answer-u2 .given .1)) refl refl
 
@@ -155,7 +162,8 @@ code-component-requires-3 : tie.Need-code-component-requires-3
 code-component-requires-3 c κs =
     let u = u-done (c .before) in
     let s = start-u u in
-    third-ready (s .args .q) (s .args .n) (s .args .room .now) (s .pre) _ (y-before-u u .code-component .ensures .1) _
+    third-ready (costsOf (s .args .costs .now)) (s .args .q) (s .args .n) (s .args .room .now) (s .pre) _
+        (y-before-u u .code-component .ensures .1) _
     (u .code-component2 .ensures .1)
 
 enum-known-answer-v : tie.Need-enum-known-answer-v
@@ -175,11 +183,12 @@ returns-3 c =
     let y = y-before-u u in
     let s = start y in
     let a = s .args in
-    coded-parted (a .q) (a .n) (a .room .now) _ _ _ _
+    coded-parted (costsOf (a .costs .now)) (a .q) (a .n) (a .room .now) _ _ _ _
     (said (y-answers y) (u .before .before .before .answer-y .given .1))
     (said (u-answers u) (v .before .before .before .answer-u .given .1))
     (said (v-answers v) (answer .answer-v .given .1))
-    (all-left (a .q) (a .n) (a .room .now) (s .pre) _ (y .code-component .ensures .1) _ (u .code-component2 .ensures .1)
+    (all-left (costsOf (a .costs .now)) (a .q) (a .n) (a .room .now) (s .pre) _ (y .code-component .ensures .1) _
+        (u .code-component2 .ensures .1)
     _ (v .code-component3 .ensures .1))
 
 same-length-4 : tie.Need-same-length-4
@@ -191,7 +200,7 @@ returns-4 c =
     let v = answer .before .before .before in
     let u = u-before-v v in
     let a = start-v v .args in
-    refused-parted (a .q) (a .n) (a .room .now) _ _ _ _ _ _
+    refused-parted (costsOf (a .costs .now)) (a .q) (a .n) (a .room .now) _ _ _ _ _ _
     (said (y-answers (y-before-u u)) (u .before .before .before .answer-y .given .1))
     (said (u-answers u) (v .before .before .before .answer-u .given .1))
     (said (v-answers v) (answer .answer-v2 .given .1)) refl

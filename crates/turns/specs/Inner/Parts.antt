@@ -7,6 +7,7 @@ use lib.ListN.{length}
 use lib.IntN.{ℤ}
 use Rattle.refusals.specs.declared.Component.the-variants.{Y, U, «V»}
 use Rattle.refusals.specs.Faults.{Outcome, accepted, refused}
+use Rattle.price.specs.declared.Costs.{Costs}
 use Rattle.coding.specs.declared.Coded.{Coded}
 use Rattle.components.specs.declared.Request.{Request}
 use Rattle.components.specs.declared.SubBlockAnswer.{SubBlockAnswer}
@@ -14,12 +15,12 @@ use Rattle.components.specs.Call as three
 use Rattle.admission.specs.Inner.Tested.{Sizes, residuals}
 use Rattle.stretch.specs.Inner.Part.{Ready, partAnswer, partLeft}
 
-pub record AllReady (q : Request) (n : ℕ) (l : List ℤ) : Type 0 where
+pub record AllReady (t : Costs) (q : Request) (n : ℕ) (l : List ℤ) : Type 0 where
   pub sizes : Sizes (q .«log2_luma») n
   pub long : length l ≡ n + n / 4 + n / 4
-  pub y : Ready Y q (residuals Y n l)
-  pub u : Ready U q (residuals U n l)
-  pub v : Ready «V» q (residuals «V» n l)
+  pub y : Ready Y t q (residuals Y n l)
+  pub u : Ready U t q (residuals U n l)
+  pub v : Ready «V» t q (residuals «V» n l)
 
 -- three answers as one: the first refusal, or what was coded of each
 abbrev pub joined : (y u v : Outcome Coded) → Outcome three.Shares
@@ -29,11 +30,11 @@ joined (accepted a) (accepted b) (refused n c) = refused n c
 joined (accepted a) (accepted b) (accepted c) = three.coded a b c
 
 -- the answer, and the room where nothing was refused
-pub record Parted (q : Request) (n : ℕ) (before after : List ℤ) (r : SubBlockAnswer) : Type 0 where
+pub record Parted (t : Costs) (q : Request) (n : ℕ) (before after : List ℤ) (r : SubBlockAnswer) : Type 0 where
   pub answer :
       three.subBlockOutcome r
-      ≡ joined (partAnswer Y q (residuals Y n before)) (partAnswer U q (residuals U n before))
-      (partAnswer «V» q (residuals «V» n before))
+      ≡ joined (partAnswer Y t q (residuals Y n before)) (partAnswer U t q (residuals U n before))
+      (partAnswer «V» t q (residuals «V» n before))
   pub left : (y u v : Coded) → three.subBlockOutcome r ≡ three.coded y u v
-      → after ≡ partLeft Y q (residuals Y n before)
-      ++ (partLeft U q (residuals U n before) ++ partLeft «V» q (residuals «V» n before))
+      → after ≡ partLeft Y t q (residuals Y n before)
+      ++ (partLeft U t q (residuals U n before) ++ partLeft «V» t q (residuals «V» n before))

@@ -1,14 +1,30 @@
 -- `verbs::read_verb` meets its contract: a word is compared with each verb's.
 -- Assumes nothing.
+use mathlib.Core.Path.{_≡_, _∙_}
+use mathlib.Core.Bool.{false}
 use mathlib.Core.List.{List}
 use Prim.Native.Nat.{ℕ}
 use borrow.Author.Needs.{needs}
-use Rattle.coding.specs.declared.Mode.the-variants.{Walk, Least}
-use Rattle.verbs.specs.declared.Verb.{Verb}
 use Rattle.verbs.specs.declared.Verb.the-variants.{Transform, Quantise, SubBlock}
-use Rattle.verbs.proofs.Apart.{named, Not, unnamed}
+use Rattle.verbs.specs.Verbs.{wordOf, sameBytes, verbOf}
+use Rattle.verbs.proofs.Apart.{compared}
 use Rattle.verbs.proofs.read_verb.Statement.{statement}
 use Rattle.verbs.proofs.read_verb.Tie as tie
+
+-- the word that all comparisons are about
+abbrev word : tie.Else1 → List ℕ
+word c = let called = c .before .before in called .before .before .args .word .now
+
+-- the comparison before
+abbrev first : tie.Else2 → tie.Else1
+first c = c .before .before .before
+
+-- what was said to those that were passed
+no-transform : (c : tie.Else1) → sameBytes (word c) (wordOf Transform) ≡ false
+no-transform c = let s = c .before .same .ensures in compared _ _ _ (s .0) (s .1) ∙ c .if1 .left
+
+no-quantise : (c : tie.Else2) → sameBytes (word (first c)) (wordOf Quantise) ≡ false
+no-quantise c = let s = c .before .same2 .ensures in compared _ _ _ (s .0) (s .1) ∙ c .if2 .left
 
 slice-aggregate-same : tie.Need-slice-aggregate-same
 slice-aggregate-same c = search needs
@@ -17,7 +33,10 @@ same-requires : tie.Need-same-requires
 same-requires c κs = search needs
 
 returns : tie.Need-returns
-returns c = named _ Transform (c .before .same .ensures .0 (c .if1 .taken))
+unfolding verbOf
+returns c =
+    let s = c .before .same .ensures in
+    rw (compared _ _ _ (s .0) (s .1), c .if1 .taken)
 
 slice-aggregate-same-2 : tie.Need-slice-aggregate-same-2
 slice-aggregate-same-2 c = search needs
@@ -26,7 +45,10 @@ same-requires-2 : tie.Need-same-requires-2
 same-requires-2 c κs = search needs
 
 returns-2 : tie.Need-returns-2
-returns-2 c = named _ (Quantise Walk) (c .before .same2 .ensures .0 (c .if2 .taken))
+unfolding verbOf
+returns-2 c =
+    let s = c .before .same2 .ensures in
+    rw (no-transform (c .before .before .before), compared _ _ _ (s .0) (s .1), c .if2 .taken)
 
 slice-aggregate-same-3 : tie.Need-slice-aggregate-same-3
 slice-aggregate-same-3 c = search needs
@@ -35,59 +57,18 @@ same-requires-3 : tie.Need-same-requires-3
 same-requires-3 c κs = search needs
 
 returns-3 : tie.Need-returns-3
-returns-3 c = named _ (Quantise Least) (c .before .same3 .ensures .0 (c .if3 .taken))
-
-slice-aggregate-same-4 : tie.Need-slice-aggregate-same-4
-slice-aggregate-same-4 c = search needs
-
-same-requires-4 : tie.Need-same-requires-4
-same-requires-4 c κs = search needs
+unfolding verbOf
+returns-3 c =
+    let passed = c .before .before .before in
+    let s = c .before .same3 .ensures in
+    rw (no-transform (first passed), no-quantise passed, compared _ _ _ (s .0) (s .1), c .if3 .taken)
 
 returns-4 : tie.Need-returns-4
-returns-4 c = named _ (SubBlock Walk) (c .before .same4 .ensures .0 (c .if4 .taken))
-
-slice-aggregate-same-5 : tie.Need-slice-aggregate-same-5
-slice-aggregate-same-5 c = search needs
-
-same-requires-5 : tie.Need-same-requires-5
-same-requires-5 c κs = search needs
-
-returns-5 : tie.Need-returns-5
-returns-5 c = named _ (SubBlock Least) (c .before .same5 .ensures .0 (c .if5 .taken))
-
--- the comparison before
-abbrev else-1 : tie.Else2 → tie.Else1
-else-1 c = c .before .before .before
-
-abbrev else-2 : tie.Else3 → tie.Else2
-else-2 c = c .before .before .before
-
-abbrev else-3 : tie.Else4 → tie.Else3
-else-3 c = c .before .before .before
-
-abbrev else-4 : tie.Else5 → tie.Else4
-else-4 c = c .before .before .before
-
--- the word that all are about
-abbrev word : tie.Else5 → List ℕ
-word c =
-    let e = else-1 (else-2 (else-3 (else-4 c))) in
-    let called = e .before .before in
-    called .before .before .args .word .now
-
-nots : (c : tie.Else5) (v : Verb) → Not (word c) v
-nots c Transform = let e =
-    else-1 (else-2 (else-3 (else-4 c))) in record { test = _; said = e .if1 .left; else = e .before .same .ensures .1 }
-nots c (Quantise Walk) = let e =
-    else-2 (else-3 (else-4 c)) in record { test = _; said = e .if2 .left; else = e .before .same2 .ensures .1 }
-nots c (Quantise Least) = let e =
-    else-3 (else-4 c) in record { test = _; said = e .if3 .left; else = e .before .same3 .ensures .1 }
-nots c (SubBlock Walk) = let e =
-    else-4 c in record { test = _; said = e .if4 .left; else = e .before .same4 .ensures .1 }
-nots c (SubBlock Least) = record { test = _; said = c .if5 .left; else = c .before .same5 .ensures .1 }
-
-returns-6 : tie.Need-returns-6
-returns-6 c = unnamed (word c) (nots c)
+unfolding verbOf
+returns-4 c =
+    let passed = c .before .before .before in
+    let s = c .before .same3 .ensures in
+    rw (no-transform (first passed), no-quantise passed, compared _ _ _ (s .0) (s .1), c .if3 .left)
 
 pub read-verb-spec : {M : Type 1} → statement M
 read-verb-spec =
@@ -102,10 +83,4 @@ read-verb-spec =
     slice-aggregate-same-3
     same-requires-3
     returns-3
-    slice-aggregate-same-4
-    same-requires-4
-    returns-4
-    slice-aggregate-same-5
-    same-requires-5
-    returns-5
-    returns-6)
+    returns-4)

@@ -3,7 +3,7 @@
 use mathlib.Core.Path.{sym, _∙_, ap}
 use Rattle.transform.specs.declared.TransAnswer.{TransAnswer}
 use Rattle.transform.specs.Call.{transOutcome}
-use Rattle.wire.specs.Wire.{transResult}
+use Rattle.surface.specs.Surface.{resultOf}
 use borrow.Author.Needs.{needs}
 use Rattle.wire.proofs.transform.Statement.{statement}
 use Rattle.wire.proofs.transform.Tie as tie
@@ -25,11 +25,12 @@ same-length c = search needs
 
 returns : tie.Need-returns
 returns c =
-    let t = c .before .before .before .trans in (
-      ap (λ (a : TransAnswer). transResult (transOutcome a)) (sym (c .enum-told .given .1))
-          ∙ ap transResult (t .ensures .0),
-      t .ensures .1,
-    )
+    let t = c .before .before .before .trans in
+    record {
+      result = ap (λ (a : TransAnswer). resultOf (transOutcome a)) (sym (c .enum-told .given .1))
+          ∙ ap resultOf (t .ensures .0);
+      left = t .ensures .1;
+    }
 
 same-length-2 : tie.Need-same-length-2
 same-length-2 c = search needs
@@ -37,11 +38,12 @@ same-length-2 c = search needs
 returns-2 : tie.Need-returns-2
 returns-2 c =
     let told = c .before .before in
-    let t = told .before .before .before .trans in (
-      c .number .ensures ∙ ap (λ (a : TransAnswer). transResult (transOutcome a)) (sym (told .why .given .1))
-          ∙ ap transResult (t .ensures .0),
-      t .ensures .1,
-    )
+    let t = told .before .before .before .trans in
+    record {
+      result = c .number .ensures ∙ ap (λ (a : TransAnswer). resultOf (transOutcome a)) (sym (told .why .given .1))
+          ∙ ap resultOf (t .ensures .0);
+      left = t .ensures .1;
+    }
 
 pub transform-spec : {M : Type 1} → statement M
 transform-spec =

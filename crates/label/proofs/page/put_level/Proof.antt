@@ -6,10 +6,10 @@ use Rattle.label.proofs.page.put_level.Statement.{statement}
 use Rattle.label.proofs.page.put_level.Tie as tie
 
 abbrev Inv-loop : tie.InvT-loop
-Inv-loop line₀ at level rest₀ n k₀ line rest k = (k ≤ n)
+Inv-loop line₀ at level rest₀ n k₀ text rest k = (k ≤ n)
 
 abbrev μ-loop : tie.MeasureT-loop
-μ-loop line₀ at level rest₀ n k₀ line rest k = n - k
+μ-loop line₀ at level rest₀ n k₀ text rest k = n - k
 
 absolute-requires : tie.Need-absolute-requires Inv-loop μ-loop
 absolute-requires c κs = search needs
@@ -20,20 +20,20 @@ width-requires c κs = search needs
 loop-holds : tie.Need-loop-holds Inv-loop μ-loop
 loop-holds c = search needs
 
-cast-line : tie.Need-cast-line Inv-loop μ-loop
-cast-line c = search needs
+cast-text : tie.Need-cast-text Inv-loop μ-loop
+cast-text c = search needs
 
-add-line : tie.Need-add-line Inv-loop μ-loop
-add-line c = search needs
+add-text : tie.Need-add-text Inv-loop μ-loop
+add-text c = search needs
 
-add-line-2 : tie.Need-add-line-2 Inv-loop μ-loop
-add-line-2 c = search needs
+add-text-2 : tie.Need-add-text-2 Inv-loop μ-loop
+add-text-2 c = search needs
 
-sub-line : tie.Need-sub-line Inv-loop μ-loop
-sub-line c = search needs
+sub-text : tie.Need-sub-text Inv-loop μ-loop
+sub-text c = search needs
 
-element-write-line : tie.Need-element-write-line Inv-loop μ-loop
-element-write-line c = search needs
+element-write-text : tie.Need-element-write-text Inv-loop μ-loop
+element-write-text c = search needs
 
 add-k : tie.Need-add-k Inv-loop μ-loop
 add-k c = search needs
@@ -44,14 +44,14 @@ loop-less c = search needs
 loop-again : tie.Need-loop-again Inv-loop μ-loop
 loop-again c = search needs
 
-add-line-3 : tie.Need-add-line-3 Inv-loop μ-loop
-add-line-3 c = search needs
+add-text-3 : tie.Need-add-text-3 Inv-loop μ-loop
+add-text-3 c = search needs
 
-sub-line-2 : tie.Need-sub-line-2 Inv-loop μ-loop
-sub-line-2 c = search needs
+sub-text-2 : tie.Need-sub-text-2 Inv-loop μ-loop
+sub-text-2 c = search needs
 
-element-write-line-2 : tie.Need-element-write-line-2 Inv-loop μ-loop
-element-write-line-2 c = search needs
+element-write-text-2 : tie.Need-element-write-text-2 Inv-loop μ-loop
+element-write-text-2 c = search needs
 
 returns : tie.Need-returns Inv-loop μ-loop
 returns c = search needs
@@ -68,16 +68,16 @@ put-level-spec =
     absolute-requires
     width-requires
     loop-holds
-    cast-line
-    add-line
-    add-line-2
-    sub-line
-    element-write-line
+    cast-text
+    add-text
+    add-text-2
+    sub-text
+    element-write-text
     add-k
     loop-less
     loop-again
-    add-line-3
-    sub-line-2
-    element-write-line-2
+    add-text-3
+    sub-text-2
+    element-write-text-2
     returns
     returns-2)

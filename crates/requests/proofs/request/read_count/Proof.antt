@@ -1,15 +1,13 @@
--- `requests::request::read_count` meets its contract: N is read within its limit.
+-- `requests::request::read_count` meets its contract: N is the word at the cursor.
 -- Assumes nothing.
-use mathlib.Core.Path.{_≡_, sym, _∙_}
-use Prim.Native.Nat.{ℕ}
-use native.Mathlib.Omega.{arith}
+use mathlib.Core.Path.{sym, _∙_}
 use borrow.Author.Needs.{needs}
-use Rattle.numerals.proofs.Reading.{within}
+use Rattle.requests.proofs.Counts.{no-word, no-number, a-number}
 use Rattle.requests.proofs.request.read_count.Statement.{statement}
 use Rattle.requests.proofs.request.read_count.Tie as tie
 
 returns : tie.Need-returns
-returns c = λ n next e. absurd (let no : _≡_ {A = ℕ} 0 1 = cc in let none : ⊥ = omega arith in none)
+returns c = no-word _ _ (c .if1 .taken)
 
 word-end-requires : tie.Need-word-end-requires
 word-end-requires c κs = search needs
@@ -32,18 +30,26 @@ enum-known-n c = search needs
 enum-told : tie.Need-enum-told
 enum-told c = search needs
 
+-- the call that the word was read by, and where it ended
+abbrev ended : tie.After-read-natural → tie.After-word-end
+ended c = c .before .before
+
 returns-2 : tie.Need-returns-2
-returns-2 c = λ n next e. absurd (let no : _≡_ {A = ℕ} 0 1 = cc in let none : ⊥ = omega arith in none)
+returns-2 c =
+    let read = c .before .before in
+    let word = ended read in
+    no-number _ _ _ (word .before .if1 .left) (word .word-end .ensures .2)
+    (sym (read .read-natural .ensures) ∙ c .enum-told .given .1)
 
 add-t11 : tie.Need-add-t11
 add-t11 c = search needs
 
 returns-3 : tie.Need-returns-3
 returns-3 c =
-    λ n next e.
-    let v = c .before .n .given in
-    let same : v .0 .0 ≡ n = cc in
-    omega (arith, same, within _ _ _ (sym (c .before .before .before .read-natural .ensures) ∙ v .1))
+    let read = c .before .before .before in
+    let word = ended read in
+    a-number _ _ _ (word .before .if1 .left) (word .word-end .ensures .2) _
+    (sym (read .read-natural .ensures) ∙ c .before .n .given .1)
 
 pub read-count-spec : {M : Type 1} → statement M
 read-count-spec =

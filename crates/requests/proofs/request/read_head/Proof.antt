@@ -3,7 +3,8 @@
 use mathlib.Core.Path.{sym, subst}
 use borrow.Author.Needs.{needs}
 use Rattle.verbs.specs.declared.Verb.{Verb}
-use Rattle.requests.specs.Request.{kindsOf, Within}
+use Rattle.requests.specs.Request.{kindsOf}
+use Rattle.requests.specs.Inner.Cursors.{Fields}
 use Rattle.requests.proofs.request.read_head.Statement.{statement}
 use Rattle.requests.proofs.request.read_head.Tie as tie
 
@@ -35,22 +36,13 @@ read-fields-requires-3 : tie.Need-read-fields-requires-3
 read-fields-requires-3 c κs = search needs
 
 returns : tie.Need-returns
-returns c =
-    let r = c .read-fields in
-    subst (λ (v : Verb). Within (r .result) (kindsOf v) (r .last .1 .1 .1 .0))
-    (sym (c .before .before .before .enum-told .given .1)) (r .ensures)
+returns c = rw (c .before .before .before .enum-told .given .1) (c .read-fields .ensures)
 
 returns-2 : tie.Need-returns-2
-returns-2 c =
-    let r = c .read-fields2 in
-    subst (λ (v : Verb). Within (r .result) (kindsOf v) (r .last .1 .1 .1 .0))
-    (sym (c .before .before .before .enum-told2 .given .1)) (r .ensures)
+returns-2 c = rw (c .before .before .before .enum-told2 .given .1) (c .read-fields2 .ensures)
 
 returns-3 : tie.Need-returns-3
-returns-3 c =
-    let r = c .read-fields3 in
-    subst (λ (v : Verb). Within (r .result) (kindsOf v) (r .last .1 .1 .1 .0))
-    (sym (c .before .before .before .enum-told3 .given .1)) (r .ensures)
+returns-3 c = rw (c .before .before .before .enum-told3 .given .1) (c .read-fields3 .ensures)
 
 pub read-head-spec : {M : Type 1} → statement M
 read-head-spec =

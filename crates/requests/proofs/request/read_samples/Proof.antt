@@ -1,39 +1,35 @@
--- `requests::request::read_samples` meets its contract. The loop's invariant: each sample so far is the word at its
--- place, and the cursor stands at the place of the next word.
+-- `requests::request::read_samples` meets its contract. The loop's invariant: the samples so far and the words from the
+-- cursor on are together what all the words are.
 -- Assumes nothing.
-use mathlib.Core.Path.{_≡_, refl, sym, ap, _∙_}
-use mathlib.Core.Bool.{true≢false}
+use mathlib.Core.Path.{_≡_, sym, _∙_}
 use Prim.Native.Nat.{_≤_, _-_}
 use native.Mathlib.Omega.{arith}
-use borrow.Author.Count.{below-none}
 use borrow.Author.Needs.{needs}
-use borrow.Author.Tests.{ltb-true}
 use lib.ListN.{length}
 use mir.Syntax.{w16}
 use mir.Val.{SFits}
 use mir.Facts.{toZ-ofZ}
-use Rattle.requests.specs.Words.{placeOf}
-use Rattle.requests.proofs.Spaces.{next-place}
-use Rattle.requests.proofs.Samples.{Read, one-more}
+use Rattle.requests.proofs.Samples.{Reading, begun, ended, no-word, no-sample, one-read}
 use Rattle.requests.proofs.request.read_samples.Statement.{statement}
 use Rattle.requests.proofs.request.read_samples.Tie as tie
 
 abbrev Inv-loop : tie.InvT-loop
-Inv-loop line at room₀ n next₀ i₀ room next i =
-    (i ≤ n) × (length room ≡ n) × (next ≡ placeOf line at i) × Read line at room i
+Inv-loop line at room₀ n next₀ i₀ room next i = (i ≤ n) × (length room ≡ n) × Reading line at n room next i
 
 abbrev μ-loop : tie.MeasureT-loop
 μ-loop line at room₀ n next₀ i₀ room next i = n - i
 
 loop-holds : tie.Need-loop-holds Inv-loop μ-loop
-unfolding placeOf
-loop-holds c = (omega arith, search needs, refl, below-none _)
+loop-holds c = (omega arith, search needs, begun _ _ _ (c .before .args .room .now))
 
 same-length : tie.Need-same-length Inv-loop μ-loop
 same-length c = search needs
 
 returns : tie.Need-returns Inv-loop μ-loop
-returns c = λ e. absurd (true≢false (sym e))
+returns c =
+    let turn = c .before in
+    let l = turn .before .loop in
+    no-word _ _ _ (l .room) (l .next) (l .i) (l .inv .1) (l .inv .2) (turn .loop-test .taken) (c .if1 .taken)
 
 word-end-requires : tie.Need-word-end-requires Inv-loop μ-loop
 word-end-requires c κs = search needs
@@ -59,8 +55,20 @@ enum-told c = search needs
 same-length-2 : tie.Need-same-length-2 Inv-loop μ-loop
 same-length-2 c = search needs
 
+-- the call that a word was read by, where the word ended, and the turn
+abbrev word : tie.After-read-sample Inv-loop μ-loop → tie.After-word-end Inv-loop μ-loop
+word c = c .before .before
+
+abbrev turn : tie.After-word-end Inv-loop μ-loop → tie.In-loop Inv-loop μ-loop
+turn c = c .before .before
+
 returns-2 : tie.Need-returns-2 Inv-loop μ-loop
-returns-2 c = λ e. absurd (true≢false (sym e))
+returns-2 c =
+    let read = c .before .before in
+    let w = word read in
+    let l = turn w .before .loop in
+    no-sample _ _ _ (l .room) (l .next) (l .i) (l .inv .1) (l .inv .2) (turn w .loop-test .taken) _
+    (w .before .if1 .left) (w .word-end .ensures .2) (sym (read .read-sample .ensures) ∙ c .enum-told .given .1)
 
 mul-v : tie.Need-mul-v Inv-loop μ-loop
 mul-v c = search needs
@@ -80,18 +88,15 @@ loop-less c = search needs
 loop-again : tie.Need-loop-again Inv-loop μ-loop
 loop-again c =
     let read = c .before .before .before in
-    let word = read .before .before in
-    let turn = word .before .before .before in
-    let l = turn .loop in
-    let a = turn .before .before .args in
+    let w = word read in
+    let l = turn w .before .loop in
     let v = c .before .v .given in
     let f : SFits w16 (v .0 .0) = search needs in (
       omega arith,
       search needs,
-      next-place (a .line .now) (a .at) (l .i) (l .next) _ (l .inv .2) (word .word-end .ensures .2),
       rw (toZ-ofZ f)
-          (one-more (a .line .now) (a .at) (l .room) (l .i) (l .next) _ (v .0 .0) (omega arith) (l .inv .2)
-          (word .word-end .ensures .2) (sym (read .read-sample .ensures) ∙ v .1) (l .inv .3)),
+          (one-read _ _ _ (l .room) (l .next) (l .i) (l .inv .1) (l .inv .2) (turn w .loop-test .taken) _
+          (w .before .if1 .left) (w .word-end .ensures .2) (v .0 .0) (sym (read .read-sample .ensures) ∙ v .1)),
     )
 
 same-length-3 : tie.Need-same-length-3 Inv-loop μ-loop
@@ -99,15 +104,8 @@ same-length-3 c = search needs
 
 returns-3 : tie.Need-returns-3 Inv-loop μ-loop
 returns-3 c =
-    λ e.
     let l = c .before .loop in
-    let a = c .before .before .before .args in
-    let line = a .line .now in
-    let full : l .i ≡ length (l .room) = omega arith in
-    record {
-      each = λ k h. l .inv .3 k (omega arith);
-      ended = omega (arith, ltb-true (length line) (l .next) e, l .inv .2, ap (placeOf line (a .at)) full);
-    }
+    ended _ _ _ (l .room) (l .next) (l .i) (l .inv .1) (l .inv .2) (omega arith)
 
 pub read-samples-spec : {M : Type 1} → statement M
 read-samples-spec =

@@ -5,7 +5,7 @@ use Prim.Native.Nat.{_≤_, _-_}
 use native.Mathlib.Omega.{arith}
 use borrow.Author.Needs.{needs}
 use lib.ListN.{length}
-use Rattle.requests.specs.Words.{endFrom}
+use Rattle.requests.specs.Inner.Cursors.{endFrom}
 use Rattle.requests.proofs.Spaces.{at-space, at-end, on}
 use Rattle.requests.proofs.words.word_end.Statement.{statement}
 use Rattle.requests.proofs.words.word_end.Tie as tie

@@ -1,0 +1,75 @@
+-- The fields of a verb, in a list that may be longer: an answer is by its verb's own fields alone, and those that cross
+-- as numbers of 32 bits are short enough.
+-- Assumes nothing.
+use mathlib.Core.Path.{_≡_, subst}
+use mathlib.Core.List.{List, [], _∷_}
+use Prim.Native.Nat.{ℕ, zero, suc, _+_, _<_}
+use native.Mathlib.Nat.{suc-add}
+use native.Mathlib.Omega.{arith}
+use lib.IntN.{ℤ}
+use lib.ListN.{length, getD, take}
+use lib.Seq.{getD-take, take-take}
+use Rattle.replies.specs.declared.Reply.{Reply}
+use Rattle.verbs.specs.declared.Verb.{Verb}
+use Rattle.verbs.specs.declared.Verb.the-variants.{Transform, Quantise, SubBlock}
+use Rattle.requests.specs.Request.{kindsOf, Limited}
+use Rattle.calls.specs.Calls.{costsFrom, answered}
+use Rattle.calls.specs.Inner.Replied.{Short, Replied}
+
+-- the costs are the last fields of a verb
+costs-in-front : (i : ℕ) (f : List ℕ) → costsFrom i (take (i + 28) f) ≡ costsFrom i f
+costs-in-front zero f = take-take 28 28 f (omega arith)
+costs-in-front (suc i) [] = rw (suc-add i 28)
+costs-in-front (suc i) (n ∷ f) = rw (suc-add i 28) (costs-in-front i f)
+
+by-own-fields : (verb : Verb) (f : List ℕ) (samples : List ℤ)
+    → answered verb (take (length (kindsOf verb)) f) samples ≡ answered verb f samples
+unfolding answered
+by-own-fields Transform f samples = rw (getD-take 2 f 0 0 (omega arith), getD-take 2 f 1 0 (omega arith))
+by-own-fields Quantise f samples =
+    let field : (i : ℕ) → i < 33 → getD (take 33 f) i 0 ≡ getD f i 0 = λ i h. getD-take 33 f i 0 h in
+    rw (
+      field 0 (omega arith),
+      field 1 (omega arith),
+      field 2 (omega arith),
+      field 3 (omega arith),
+      field 4 (omega arith),
+      costs-in-front 5 f,
+    )
+by-own-fields SubBlock f samples =
+    let field : (i : ℕ) → i < 37 → getD (take 37 f) i 0 ≡ getD f i 0 = λ i h. getD-take 37 f i 0 h in
+    rw (
+      field 0 (omega arith),
+      field 1 (omega arith),
+      field 2 (omega arith),
+      field 3 (omega arith),
+      field 4 (omega arith),
+      field 5 (omega arith),
+      field 6 (omega arith),
+      field 7 (omega arith),
+      field 8 (omega arith),
+      costs-in-front 9 f,
+    )
+
+-- where the verb is known
+module _ (v : Verb) (f : List ℕ) where
+  pub by-verb : (w : Verb) → v ≡ w → (samples before : List ℤ) (r : Reply) (after : List ℤ)
+      → Replied (answered w f samples) before r after
+      → Replied (answered v (take (length (kindsOf v)) f) samples) before r after
+  by-verb w e samples before r after h = rw (e, by-own-fields w f samples) h
+
+  -- the fields of kind `i`
+  pub quantise-short : v ≡ Quantise → Limited (kindsOf v) f → Short f 2 × Short f 4
+  quantise-short e h =
+      let short = subst (λ (w : Verb). Limited (kindsOf w) f) e h in (short 2 (omega arith), short 4 (omega arith))
+
+  pub sub-block-short : v ≡ SubBlock → Limited (kindsOf v) f
+      → Short f 1 × Short f 2 × Short f 4 × Short f 6 × Short f 8
+  sub-block-short e h =
+      let short = subst (λ (w : Verb). Limited (kindsOf w) f) e h in (
+        short 1 (omega arith),
+        short 2 (omega arith),
+        short 4 (omega arith),
+        short 6 (omega arith),
+        short 8 (omega arith),
+      )

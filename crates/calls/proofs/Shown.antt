@@ -1,0 +1,55 @@
+-- A reply made by what a call left is the answer line that shows it: by the result of the call, its answer and its
+-- buffer, of any call and for each of the three.
+-- Assumes nothing.
+use mathlib.Core.Path.{_≡_, refl}
+use mathlib.Core.Bool.{Bool, true, false, cond}
+use mathlib.Core.List.{List, [], _∷_}
+use Prim.Native.Nat.{ℕ, _≤_}
+use native.Mathlib.Omega.{arith}
+use lib.Dec.{eqb}
+use lib.IntN.{ℤ}
+use lib.ListN.{length, getD, take}
+use Rattle.replies.specs.declared.Reply.{Reply}
+use Rattle.replies.specs.Reply.{replyText}
+use Rattle.transform.specs.Call.{Trans}
+use Rattle.coding.specs.Block.{Quant}
+use Rattle.coding.specs.Call.{quantAnswer, quantBuffer}
+use Rattle.components.specs.Call.{SubBlock, subBlockAnswer, subBlockBuffer}
+use Rattle.surface.specs.Surface.{resultOf, TransLeft, QuantLeft, ThreeLeft}
+use Rattle.calls.specs.Calls.{shown, transText, quantText, threeText}
+use Rattle.calls.specs.Inner.Replied.{replyBy, Replied}
+
+module _ (result component count : ℕ) (numbers : List ℕ) (before after : List ℤ) where
+  -- by the test of the result
+  accepted-or-refused : (b : Bool)
+      → let yes : Reply = record { accepted = true; count = count; numbers = numbers } in
+      let no : Reply = record { accepted = false; count = 2; numbers = result ∷ component ∷ 0 ∷ 0 ∷ 0 ∷ 0 ∷ [] } in
+      count ≤ 6 → length after ≡ length before
+      → Replied
+      (cond b (replyText true (take count numbers) after) (replyText false (result ∷ component ∷ []) after)) before
+      (cond b yes no) after
+  accepted-or-refused true h e = record { is = refl; few = h; kept = e }
+  accepted-or-refused false h e = record { is = refl; few = omega arith; kept = e }
+
+  replied-by : count ≤ 6 → length after ≡ length before
+      → Replied (shown result component (take count numbers) after) before
+      (replyBy result component count numbers) after
+  replied-by = accepted-or-refused (eqb result 0)
+
+  pub replied : (q : Reply) (text : List ℕ) → q ≡ replyBy result component count numbers → count ≤ 6
+      → length after ≡ length before → shown result component (take count numbers) after ≡ text
+      → Replied text before q after
+  replied q text e h k s = rw (e, ← s) (replied-by h k)
+
+-- ---- what a call left, shown
+pub trans-shown : (t : Trans) (r : ℕ) (block : List ℤ) → TransLeft t r block → shown r 0 [] block ≡ transText t
+trans-shown t r block h = rw (h .result, h .left)
+
+pub quant-shown : (c : Quant) (r : ℕ) (answer : List ℕ) (block : List ℤ) → QuantLeft c r answer block
+    → shown r (getD answer 0 0) (getD answer 1 0 ∷ getD answer 2 0 ∷ []) block ≡ quantText c
+quant-shown c r answer block h = rw (h .result, h .written, h .left)
+
+pub three-shown : (s : SubBlock) (r : ℕ) (w : List ℕ) (buffer : List ℤ) → ThreeLeft s r w buffer
+    → shown r (getD w 0 0) (getD w 1 0 ∷ getD w 4 0 ∷ getD w 2 0 ∷ getD w 5 0 ∷ getD w 3 0 ∷ getD w 6 0 ∷ []) buffer
+    ≡ threeText s
+three-shown s r w buffer h = rw (h .result, h .written, h .left)

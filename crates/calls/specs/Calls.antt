@@ -1,0 +1,83 @@
+-- What a request is answered by: the call that its fields ask for, made by the numbers that cross to C (`surface`), and
+-- the answer line that shows what the call left: its result, its answer and its buffer.
+use mathlib.Core.Bool.{true, false, cond}
+use mathlib.Core.List.{List, [], _∷_}
+use Prim.Native.Nat.{ℕ, _+_}
+use lib.Dec.{eqb}
+use lib.Ieee.{Float, binary64, ofBits}
+use lib.IntN.{ℤ}
+use lib.ListN.{getD, take, drop}
+use Rattle.refusals.specs.declared.Component.{Component}
+use Rattle.refusals.specs.declared.Component.the-variants.{Y, U, «V»}
+use Rattle.transform.specs.Call.{Trans, transVerdict, transBuffer}
+use Rattle.transform.specs.Call as trans
+use Rattle.coding.specs.Block.{Quant}
+use Rattle.coding.specs.Call.{quantAnswer, quantBuffer}
+use Rattle.components.specs.Call.{SubBlock, subBlockAnswer, subBlockBuffer}
+use Rattle.surface.specs.Surface.{resultOf, quantAsked, quantWritten, threeAsked, threeWritten}
+use Rattle.verbs.specs.declared.Verb.{Verb}
+use Rattle.verbs.specs.declared.Verb.the-variants as verbs
+use Rattle.replies.specs.Reply.{replyText}
+
+-- ---- the calls, by the fields of a request in the order of its line
+abbrev pub componentBy : ℕ → Component
+componentBy n = cond (eqb n 0) Y (cond (eqb n 1) U «V»)
+
+-- an f64 by its bits
+abbrev pub lambdaBy : ℕ → Float
+lambdaBy bits = ofBits binary64 bits
+
+-- the 28 costs from field i on
+abbrev pub costsFrom : ℕ → List ℕ → List ℕ
+costsFrom i f = take 28 (drop i f)
+
+-- LOG2W LOG2H
+abbrev pub transBy : List ℕ → List ℤ → Trans
+transBy f samples = trans.called samples (getD f 0 0) (getD f 1 0)
+
+-- COMPONENT LOG2 QP LAMBDA FLAGS, COSTS
+abbrev pub quantBy : List ℕ → List ℤ → Quant
+quantBy f samples =
+    quantAsked (componentBy (getD f 0 0)) samples (getD f 1 0) (getD f 2 0) (lambdaBy (getD f 3 0)) (getD f 4 0)
+    (costsFrom 5 f)
+
+-- LOG2 RUN, a QP and a LAMBDA each of Y, U and V, FLAGS, COSTS
+abbrev pub qpsBy : List ℕ → List ℕ
+qpsBy f = getD f 2 0 ∷ getD f 4 0 ∷ getD f 6 0 ∷ []
+
+abbrev pub lambdasBy : List ℕ → List Float
+lambdasBy f = lambdaBy (getD f 3 0) ∷ lambdaBy (getD f 5 0) ∷ lambdaBy (getD f 7 0) ∷ []
+
+abbrev pub threeBy : List ℕ → List ℤ → SubBlock
+threeBy f samples =
+    threeAsked samples (getD f 0 0) (qpsBy f) (lambdasBy f) (getD f 1 0) (getD f 8 0) (costsFrom 9 f)
+
+-- ---- the answer line
+-- where the result is 0, `accepted` and numbers of the answer; else `refused`, the result and the component
+abbrev pub shown : (result component : ℕ) → (numbers : List ℕ) → List ℤ → List ℕ
+shown result component numbers buffer =
+    cond (eqb result 0) (replyText true numbers buffer) (replyText false (result ∷ component ∷ []) buffer)
+
+-- no number of a transform
+abbrev pub transText : Trans → List ℕ
+transText t = shown (resultOf (transVerdict t)) 0 [] (transBuffer t)
+
+-- the count and the price
+abbrev pub quantText : Quant → List ℕ
+quantText c =
+    let w = quantWritten (quantAnswer c) in
+    shown (resultOf (quantAnswer c)) (getD w 0 0) (getD w 1 0 ∷ getD w 2 0 ∷ []) (quantBuffer c)
+
+-- the count and the price of Y, of U, of V
+abbrev pub threeText : SubBlock → List ℕ
+threeText s =
+    let w = threeWritten (subBlockAnswer s) in
+    shown (resultOf (subBlockAnswer s)) (getD w 0 0)
+    (getD w 1 0 ∷ getD w 4 0 ∷ getD w 2 0 ∷ getD w 5 0 ∷ getD w 3 0 ∷ getD w 6 0 ∷ []) (subBlockBuffer s)
+
+-- what a verb with its fields and samples is answered by
+unfoldable pub answered : Verb → List ℕ → List ℤ → List ℕ
+unfolding replyText
+answered verbs.Transform f samples = transText (transBy f samples)
+answered verbs.Quantise f samples = quantText (quantBy f samples)
+answered verbs.SubBlock f samples = threeText (threeBy f samples)

@@ -1,0 +1,2 @@
+pub mod Lambda
+pub mod Page

@@ -1,0 +1,127 @@
+-- What crosses to C and Rust, computed: calls made of flat numbers, and the flat numbers that they answer. The exports'
+-- contracts are equations with specs/Surface.antt, and hold as well where code and definition take the numbers in one
+-- and the same wrong order. The answers here do not: they were worked out by a program that shares nothing with the
+-- definitions. No two of the 28 costs are equal, nor two of the settings, nor two prices of an answer; the slice's and
+-- the block's flag are raised each without the other, in either mode, and once with all bits that mean nothing. Two
+-- costs exchanged change some answer, whichever two they are, but for the second of a level's first row and the first
+-- of its second row: every level of 2 or more pays both, and nothing else pays either.
+-- Assumes nothing.
+use mathlib.Core.Path.{_≡_, refl}
+use mathlib.Core.List.{List, [], _∷_, _++_}
+use Prim.Native.Nat.{ℕ}
+use lib.IntN.{ℤ}
+use lib.Ieee.{nan}
+use Rattle.refusals.specs.declared.Component.{Component}
+use Rattle.refusals.specs.declared.Component.the-variants.{Y, U, «V»}
+use Rattle.transform.specs.Call.{called, transVerdict}
+use Rattle.price.specs.Costs.{costsOf}
+use Rattle.coding.specs.Block.{Quant}
+use Rattle.coding.specs.Block as quant
+use Rattle.coding.specs.Call.{quantAnswer, quantBuffer}
+use Rattle.coding.proofs.Numbers.{p, m, parts}
+use Rattle.components.specs.Call.{SubBlock, subBlockAnswer, subBlockBuffer}
+use Rattle.components.specs.Call as three
+use Rattle.surface.specs.Surface.{resultOf, quantAsked, quantWritten, threeAsked, threeWritten}
+
+-- run, level, last and cbf
+abbrev costs : List ℕ
+costs =
+    310 ∷ 28365 ∷ 25447 ∷ 43284 ∷ 35203 ∷ 24429 ∷ 44970 ∷ 45197
+    ∷ 4594 ∷ 18607 ∷ 13666 ∷ 14409 ∷ 36614 ∷ 27580 ∷ 8674 ∷ 41287
+    ∷ 1071 ∷ 43035 ∷ 35060 ∷ 49408
+    ∷ 12891 ∷ 43307 ∷ 34547 ∷ 49964 ∷ 7598 ∷ 13705 ∷ 13517 ∷ 23789 ∷ []
+
+-- ---- the three-component call, luma 4×4
+-- residuals of Y and V, with those of U between
+abbrev held : (u : List ℤ) → List ℤ
+held u =
+    (m 19 ∷ m 3 ∷ m 2 ∷ m 38 ∷ p 32 ∷ p 20 ∷ p 23 ∷ p 17 ∷ m 39 ∷ m 21 ∷ m 32 ∷ m 39 ∷ m 20 ∷ m 6 ∷ p 0 ∷ p 4 ∷ [])
+    ++ (u ++ (p 2 ∷ p 7 ∷ p 6 ∷ m 3 ∷ []))
+
+abbrev asked : (flags : ℕ) → List ℤ → SubBlock
+asked flags u =
+    threeAsked (held u) 2 (31 ∷ 14 ∷ 24 ∷ []) (parts 1500 ∷ parts 2000 ∷ parts 900 ∷ []) 7 flags costs
+
+-- the result, the answer, and the buffer at the end
+abbrev Gives : SubBlock → ℕ → List ℕ → List ℤ → Type 0
+Gives s result written after =
+    (resultOf (subBlockAnswer s) ≡ result) × (threeWritten (subBlockAnswer s) ≡ written) × (subBlockBuffer s ≡ after)
+
+abbrev u : List ℤ
+u = m 11 ∷ m 9 ∷ p 7 ∷ p 9 ∷ []
+
+pub sub-block :
+    -- an intra slice, not intra-coded: V is not skipped, and luma reads cbf all
+    Gives (asked 1 u) 0 (0 ∷ 6 ∷ 3 ∷ 2 ∷ 57337292299 ∷ 1497848843 ∷ 2907307604 ∷ [])
+    (m 1 ∷ p 0 ∷ m 1 ∷ p 0 ∷ p 1 ∷ p 1 ∷ p 0 ∷ p 0 ∷ p 0 ∷ p 0 ∷ p 0 ∷ p 0 ∷ m 3 ∷ p 0 ∷ m 1 ∷ p 0
+    ∷ m 1 ∷ m 1 ∷ m 6 ∷ p 0 ∷ p 1 ∷ p 0 ∷ p 0 ∷ m 1 ∷ [])
+    -- the same in the other mode
+    × Gives (asked 5 u) 0 (0 ∷ 7 ∷ 1 ∷ 2 ∷ 57314785167 ∷ 1445553339 ∷ 2907307604 ∷ [])
+    (m 1 ∷ p 0 ∷ m 1 ∷ p 0 ∷ p 1 ∷ p 1 ∷ p 0 ∷ p 0 ∷ m 1 ∷ p 0 ∷ p 0 ∷ p 0 ∷ m 3 ∷ p 0 ∷ m 1 ∷ p 0
+    ∷ p 0 ∷ p 0 ∷ m 6 ∷ p 0 ∷ p 1 ∷ p 0 ∷ p 0 ∷ m 1 ∷ [])
+    -- an inter slice, intra-coded: V is skipped, and luma reads cbf luma
+    × Gives (asked 2 u) 0 (0 ∷ 6 ∷ 3 ∷ 0 ∷ 57347277799 ∷ 1497848843 ∷ 0 ∷ [])
+    (m 1 ∷ p 0 ∷ m 1 ∷ p 0 ∷ p 1 ∷ p 1 ∷ p 0 ∷ p 0 ∷ p 0 ∷ p 0 ∷ p 0 ∷ p 0 ∷ m 3 ∷ p 0 ∷ m 1 ∷ p 0
+    ∷ m 1 ∷ m 1 ∷ m 6 ∷ p 0 ∷ p 0 ∷ p 0 ∷ p 0 ∷ p 0 ∷ [])
+    -- refused: refusal 6 of U
+    × Gives (asked 7 (p 0 ∷ m 1024 ∷ p 0 ∷ p 0 ∷ [])) 6 (1 ∷ 0 ∷ 0 ∷ 0 ∷ 0 ∷ 0 ∷ 0 ∷ [])
+    (held (p 0 ∷ m 1024 ∷ p 0 ∷ p 0 ∷ []))
+unfolding three.requested subBlockAnswer subBlockBuffer costsOf
+sub-block = ((refl, refl, refl), (refl, refl, refl), (refl, refl, refl), (refl, refl, refl))
+
+-- ---- the quantiser, 2×2
+abbrev block : (a b c d : ℤ) → List ℤ
+block a b c d = a ∷ b ∷ c ∷ d ∷ []
+
+abbrev Quantises : Quant → ℕ → List ℕ → List ℤ → Type 0
+Quantises c result written after =
+    (resultOf (quantAnswer c) ≡ result) × (quantWritten (quantAnswer c) ≡ written) × (quantBuffer c ≡ after)
+
+-- a 2×2 block of a component
+abbrev of : Component → (flags qp lambda : ℕ) → List ℤ → Quant
+of k flags qp lambda l = quantAsked k l 1 qp (parts lambda) flags costs
+
+pub quantise :
+    -- luma, in either mode; the bits that mean nothing are raised in the first
+    Quantises (of Y 4294967289 4 1500 (block (m 74) (p 9) (m 12) (m 53))) 0 (0 ∷ 3 ∷ 588576468 ∷ [])
+    (block (m 4) (p 0) (m 1) (m 3))
+    × Quantises (of Y 5 4 1500 (block (m 74) (p 9) (m 12) (m 53))) 0 (0 ∷ 4 ∷ 558049360 ∷ [])
+    (block (m 4) (p 1) (m 1) (m 3))
+    -- Cb, in either mode
+    × Quantises (of U 2 5 700 (block (m 39) (p 15) (m 14) (p 56))) 0 (0 ∷ 3 ∷ 422358757 ∷ [])
+    (block (m 2) (p 1) (p 0) (p 3))
+    × Quantises (of U 6 5 700 (block (m 39) (p 15) (m 14) (p 56))) 0 (0 ∷ 2 ∷ 412852902 ∷ [])
+    (block (m 2) (p 0) (p 0) (p 3))
+unfolding quant.called quantAnswer quantBuffer costsOf
+quantise = ((refl, refl, refl), (refl, refl, refl), (refl, refl, refl), (refl, refl, refl))
+
+-- blocks in which nothing is left
+pub empty :
+    -- by their price, which has the first entry of cbf all, luma, Cb and Cr
+    Quantises (of Y 1 7 1500 (block (p 13) (p 1) (m 12) (p 15))) 0 (0 ∷ 0 ∷ 160590136 ∷ [])
+    (block (p 0) (p 0) (p 0) (p 0))
+    × Quantises (of Y 6 4 3000 (block (m 22) (m 7) (p 17) (m 28))) 0 (0 ∷ 0 ∷ 524644264 ∷ [])
+    (block (p 0) (p 0) (p 0) (p 0))
+    × Quantises (of U 6 5 2000 (block (p 24) (p 26) (p 17) (m 7))) 0 (0 ∷ 0 ∷ 431929188 ∷ [])
+    (block (p 0) (p 0) (p 0) (p 0))
+    × Quantises (of «V» 1 15 2000 (block (m 8) (m 20) (m 32) (p 36))) 0 (0 ∷ 0 ∷ 756744596 ∷ [])
+    (block (p 0) (p 0) (p 0) (p 0))
+    -- the first of these in an inter slice: skipped
+    × Quantises (of Y 2 7 1500 (block (p 13) (p 1) (m 12) (p 15))) 0 (0 ∷ 0 ∷ 0 ∷ [])
+    (block (p 0) (p 0) (p 0) (p 0))
+unfolding quant.called quantAnswer quantBuffer costsOf
+empty = ((refl, refl, refl), (refl, refl, refl), (refl, refl, refl), (refl, refl, refl), (refl, refl, refl))
+
+-- refused: refusal 3 of V
+pub refused :
+    Quantises (quantAsked «V» (block (p 1) (p 2) (p 3) (p 4)) 1 4 nan 3 costs) 3 (2 ∷ 0 ∷ 0 ∷ [])
+    (block (p 1) (p 2) (p 3) (p 4))
+unfolding quant.called quantAnswer quantBuffer costsOf
+refused = (refl, refl, refl)
+
+-- ---- the transform: accepted, and refused with 6
+pub transform :
+    (resultOf (transVerdict (called (block (p 1) (p 2) (p 3) (p 4)) 1 1)) ≡ 0)
+    × (resultOf (transVerdict (called (block (p 1) (p 2) (m 1024) (p 4)) 1 1)) ≡ 6)
+unfolding transVerdict
+transform = (refl, refl)

@@ -1,0 +1,104 @@
+-- The calls over flat numbers, as they cross to C and Rust: which call the numbers ask for, and what it leaves. A
+-- call's result is 0 for accepted, else the refusal's number; its answer is written in either case.
+use mathlib.Core.Path.{_≡_}
+use mathlib.Core.Bool.{Bool, cond}
+use mathlib.Core.List.{List, [], _∷_}
+use Prim.Native.Nat.{ℕ, _/_, _%_}
+use lib.Dec.{eqb}
+use lib.Ieee.{Float, nan}
+use lib.IntN.{ℤ}
+use lib.ListN.{getD}
+use Rattle.refusals.specs.declared.Component.{Component}
+use Rattle.refusals.specs.Faults.{Outcome, accepted, refused}
+use Rattle.transform.specs.Call.{Trans, transVerdict, transBuffer}
+use Rattle.price.specs.declared.Settings.{Settings}
+use Rattle.price.specs.Costs.{costsOf}
+use Rattle.coding.specs.declared.Coded.{Coded}
+use Rattle.coding.specs.declared.Coding.{Coding}
+use Rattle.coding.specs.declared.Mode.{Mode}
+use Rattle.coding.specs.declared.Mode.the-variants.{Walk, Least}
+use Rattle.coding.specs.Block.{Quant, called}
+use Rattle.coding.specs.Call.{quantAnswer, quantBuffer}
+use Rattle.components.specs.declared.Request.{Request}
+use Rattle.components.specs.Call.{SubBlock, requested, Shares, subBlockAnswer, subBlockBuffer}
+
+-- a call's result
+abbrev pub resultOf : {A : Type 0} → Outcome A → ℕ
+resultOf (accepted a) = 0
+resultOf (refused number component) = number
+
+-- ---- flags: bit 0 for an intra slice, bit 1 for an intra-coded block, bit 2 for the cheapest block of all instead of
+-- the walk's; other bits mean nothing
+abbrev pub sliceIn : ℕ → Bool
+sliceIn flags = eqb (flags % 2) 1
+
+abbrev pub codedIn : ℕ → Bool
+codedIn flags = eqb (flags / 2 % 2) 1
+
+abbrev pub modeIn : ℕ → Mode
+modeIn flags = cond (eqb (flags / 4 % 2) 1) Least Walk
+
+-- ---- the transform: its result and its block
+pub record TransLeft (t : Trans) (r : ℕ) (block : List ℤ) : Type 0 where
+  pub result : r ≡ resultOf (transVerdict t)
+  pub left : block ≡ transBuffer t
+
+-- ---- the quantiser
+abbrev pub codingBy : Component → (log2 qp : ℕ) → Float → (flags : ℕ) → Coding
+codingBy k log2 qp lambda flags =
+    record {
+      log2 = log2;
+      component = k;
+      settings = record { qp = qp; lambda = lambda };
+      «intra_slice» = sliceIn flags;
+      «intra_coded» = codedIn flags;
+      mode = modeIn flags;
+    }
+
+-- its call, by the 28 numbers of the cost tables
+abbrev pub quantAsked : Component → List ℤ → (log2 qp : ℕ) → Float → (flags : ℕ) → List ℕ → Quant
+quantAsked k block log2 qp lambda flags costs = called block (costsOf costs) (codingBy k log2 qp lambda flags)
+
+-- its answer: the component, the count, the price
+abbrev pub quantWritten : Outcome Coded → List ℕ
+quantWritten (accepted a) = 0 ∷ a .count ∷ a .price ∷ []
+quantWritten (refused number component) = component ∷ 0 ∷ 0 ∷ []
+
+-- what it leaves: result, answer and block
+pub record QuantLeft (c : Quant) (r : ℕ) (answer : List ℕ) (block : List ℤ) : Type 0 where
+  pub result : r ≡ resultOf (quantAnswer c)
+  pub written : answer ≡ quantWritten (quantAnswer c)
+  pub left : block ≡ quantBuffer c
+
+-- ---- the three-component call: QPs and lambdas of Y, U, V
+abbrev pub settingsIn : List ℕ → List Float → ℕ → Settings
+settingsIn qp lambda k = record { qp = getD qp k 0; lambda = getD lambda k nan }
+
+abbrev pub requestBy : (log2 : ℕ) → List ℕ → List Float → (run flags : ℕ) → Request
+requestBy log2 qp lambda run flags =
+    record {
+      «log2_luma» = log2;
+      y = settingsIn qp lambda 0;
+      u = settingsIn qp lambda 1;
+      v = settingsIn qp lambda 2;
+      run = run;
+      «intra_slice» = sliceIn flags;
+      «intra_coded» = codedIn flags;
+      mode = modeIn flags;
+    }
+
+abbrev pub threeAsked : List ℤ → (log2 : ℕ) → List ℕ → List Float → (run flags : ℕ) → List ℕ → SubBlock
+threeAsked buffer log2 qp lambda run flags costs =
+    requested buffer (costsOf costs) (requestBy log2 qp lambda run flags)
+
+-- its answer: the component, the counts of Y, U, V, their prices
+abbrev pub threeWritten : Outcome Shares → List ℕ
+threeWritten (accepted a) =
+    0 ∷ a .y .count ∷ a .u .count ∷ a .v .count ∷ a .y .price ∷ a .u .price ∷ a .v .price ∷ []
+threeWritten (refused number component) = component ∷ 0 ∷ 0 ∷ 0 ∷ 0 ∷ 0 ∷ 0 ∷ []
+
+-- what it leaves: result, answer and buffer
+pub record ThreeLeft (s : SubBlock) (r : ℕ) (answer : List ℕ) (buffer : List ℤ) : Type 0 where
+  pub result : r ≡ resultOf (subBlockAnswer s)
+  pub written : answer ≡ threeWritten (subBlockAnswer s)
+  pub left : buffer ≡ subBlockBuffer s
