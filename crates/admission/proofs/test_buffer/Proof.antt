@@ -84,7 +84,7 @@ sample : (c : tie.Else2) (k : Component) {r t : Bool}
 sample c =
     let a = start2 c .args in
     sample-is (a .buffer .now) (costsOf (a .costs .now)) (a .q) (c .before .luma-places .result)
-        (c .before .luma-places .ensures)
+    (c .before .luma-places .ensures)
 
 sub-bad-residuals : tie.Need-sub-bad-residuals
 sub-bad-residuals c = search needs

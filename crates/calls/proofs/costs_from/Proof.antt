@@ -32,7 +32,8 @@ copy-requires c κs = search needs
 returns : tie.Need-returns
 returns c =
     let made = c .before in
-    let a = made .before .before .before .before .args in
+    let lent = made .before .before in
+    let a = lent .before .before .args in
     let n-is : a .i + 28 - a .i ≡ 28 = omega arith in
     made .copy .ensures ∙ ap (λ (n : ℕ). take n (drop (a .i) (a .fields .now))) n-is
 

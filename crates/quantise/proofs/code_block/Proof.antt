@@ -135,7 +135,7 @@ sum-held c =
     let g = scale-at (else-2 (else-3 e4)) .scale-of in
     subst (λ (n : ℕ). Held n (c .uncoded .result))
     (sym (uncoded-here (s .args .block .now) (costsIn s) (s .args .coding) (s .pre) (g .result) (g .ensures)))
-        (c .uncoded .ensures)
+    (c .uncoded .ensures)
 
 -- where the prices are read
 abbrev else-5 : tie.After-prices-of → tie.Else5
@@ -183,7 +183,7 @@ distortion-no : (c : tie.Else5) → distortionFault .holds (asked (start-5 c)) �
 distortion-no c =
     let s = start-5 c in
     distortion-here (s .args .block .now) (costsIn s) (s .args .coding) (s .pre) (walked (else-1 (else-2 (else-3
-        (else-4 c)))))
+    (else-4 c)))))
     false (le-ltb (2 ^ 60) _ (held-is _ _ (sum-held (c .before)) (c .if5 .left) .1))
 
 past-1 : (c : tie.Else1) {f : Fault Quant} → (let q = asked (start-1 c) in First q f late → First q f quantFaults)
@@ -233,7 +233,7 @@ returns c =
     (omega (arith, limit .ensures .2, q .ensures, scale-range (s .args .coding .settings .qp)))
     (s .args .block .now) (sym (asks .is-walked .ensures) ∙ not-true _ (then .if1 .taken)) in
     let a = skipped-answer (s .args .block .now) (costsIn s) (s .args .coding) (s .pre) (skipped-is asks
-        ∙ then .if1 .taken) none in
+    ∙ then .if1 .taken) none in
     (sym (a .0), c .before .clear .ensures ∙ sym (a .1))
 
 scale-of-requires : tie.Need-scale-of-requires
@@ -251,7 +251,7 @@ returns-2 c =
     let e1 = scale-there (c .before) .before in
     let s = start-1 e1 in
     let e = refused-answer (asked s) (past-1 e1 (here (sample-here (s .args .block .now) (costsIn s)
-        (s .args .coding) (s .pre) true
+    (s .args .coding) (s .pre) true
     (c .before .largest .ensures .lowest ∙ eq-eqb _ 32768 (c .if2 .taken))))) in
     (sym (e .0), sym (e .1))
 
@@ -267,7 +267,7 @@ returns-3 c =
     let e2 = c .before .before in
     let s = start-2 e2 in
     let e = refused-answer (asked s) (past-2 e2 (here (level-here (s .args .block .now) (costsIn s) (s .args .coding)
-        (s .pre)
+    (s .pre)
     (walked (else-1 e2)) true (ap (ltb 32767) (largest-is (c .before)) ∙ lt-ltb 32767 _ (c .if3 .taken))))) in
     (sym (e .0), sym (e .1))
 
@@ -296,7 +296,7 @@ returns-4 c =
     let e3 = c .before .before in
     let s = start-3 e3 in
     let e = refused-answer (asked s) (past-3 e3 (here (price-here (s .args .block .now) (costsIn s) (s .args .coding)
-        (s .pre)
+    (s .pre)
     (walked (else-1 (else-2 e3))) true (ap (ltb (2 ^ 41)) (weight-is (c .before))
     ∙ lt-ltb (2 ^ 41) _ (c .if4 .taken))))) in
     (sym (e .0), sym (e .1))
@@ -319,7 +319,7 @@ returns-5 c =
     let e4 = c .before .before .before in
     let s = start-4 e4 in
     let e = refused-answer (asked s) (past-4 e4 (here (distortion-here (s .args .block .now) (costsIn s)
-        (s .args .coding) (s .pre)
+    (s .args .coding) (s .pre)
     (walked (else-1 (else-2 (else-3 e4)))) true
     (lt-ltb (2 ^ 60) _ (held-beyond _ _ (sum-held (c .before)) (c .if5 .taken)))))) in
     (sym (e .0), sym (e .1))
@@ -389,7 +389,7 @@ returns-6 c =
     let g = scale-at e2 .scale-of in
     let a =
     coded-answer (s .args .block .now) (costsIn s) (s .args .coding) (s .pre) (g .result) (g .ensures) (walked
-        (else-1 e2))
+    (else-1 e2))
     (but (sample-no e2) (but (level-no e3) (but (price-no e4) (but (distortion-no e5) end))))
     (priced .prices-of .result) (prices-are priced) _ _ (coded .code-levels .ensures) in
     (sym (a .0), sym (a .1))

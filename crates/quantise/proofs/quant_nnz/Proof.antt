@@ -75,7 +75,7 @@ unfolding quantFaults
 past-1 c h =
     let s = start-1 c in
     later (side-test (s .args .block .now) (costsIn s) (s .args .coding) false (sym (c .before .no-side .ensures)
-        ∙ c .if1 .left)) h
+    ∙ c .if1 .left)) h
 
 past-2 : (c : tie.Else2) {f : Fault Quant} → (let q = asked (start-2 c) in
     First q f (lambdaFault ∷ costFault ∷ lengthFault ∷ late) → First q f quantFaults)
@@ -126,7 +126,7 @@ returns-3 c =
     let e2 = c .before .before in
     let s = start-2 e2 in
     let e = refused-answer (asked s) (past-2 e2 (here (lambda-test (s .args .block .now) (costsIn s)
-        (s .args .coding) true
+    (s .args .coding) true
     (sym (c .before .lambda-refused .ensures) ∙ c .if3 .taken)))) in
     (sym (e .0), sym (e .1))
 
@@ -139,7 +139,7 @@ returns-4 c =
     let e3 = c .before .before in
     let s = start-3 e3 in
     let e = refused-answer (asked s) (past-3 e3 (here (cost-test (s .args .block .now) (costsIn s)
-        (s .args .coding) true
+    (s .args .coding) true
     (sym (c .before .costs-refused .ensures) ∙ c .if4 .taken)))) in
     (sym (e .0), sym (e .1))
 

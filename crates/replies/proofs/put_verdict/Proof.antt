@@ -16,7 +16,9 @@ same-length : tie.Need-same-length
 same-length c = search needs
 
 returns : tie.Need-returns
-returns c = rw (c .before .before .before .before .before .if1 .taken) (c .before .before .put-word .ensures)
+returns c =
+    let put = c .before .before in
+    rw (put .before .before .before .if1 .taken) (put .put-word .ensures)
 
 slice-aggregate-put-word-2 : tie.Need-slice-aggregate-put-word-2
 slice-aggregate-put-word-2 c = search needs
@@ -29,8 +31,8 @@ same-length-2 c = search needs
 
 returns-2 : tie.Need-returns-2
 returns-2 c =
-    rw (c .before .before .before .before .before .if1 .left)
-    (looser _ _ _ 0 7 8 _ (omega arith) (c .before .before .put-word2 .ensures))
+    let put = c .before .before in
+    rw (put .before .before .before .if1 .left) (looser _ _ _ 0 7 8 _ (omega arith) (put .put-word2 .ensures))
 
 pub put-verdict-spec : {M : Type 1} → statement M
 put-verdict-spec =

@@ -65,7 +65,7 @@ returns c =
     let e : trans.transOutcome (t .trans .result) ≡ passed =
     t .trans .ensures .0
     ∙ trans-passes (a .component) (costsOf (a .costs .now)) (a .q) (a .part .now) (s .pre) (is-run (begun t))
-        (log2 .result) (log2 .ensures) in
+    (log2 .result) (log2 .ensures) in
     let g = sym (ap trans.transOutcome (refused .t .given .1)) ∙ e in
     let z : _≡_ {A = ℕ} 0 1 = cc in
     absurd (let no : ⊥ = omega arith in no)

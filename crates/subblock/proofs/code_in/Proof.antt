@@ -42,7 +42,7 @@ part-copy-end : tie.Need-part-copy-end
 part-copy-end c =
     let s = c .before in
     room-of (s .args .buffer .now) (costsOf (s .args .costs .now)) (s .args .q) (s .args .n) (s .pre .sizes)
-        (s .pre .passed .settings)
+    (s .pre .passed .settings)
     (s .pre .passed .buffer)
 
 copy-requires : tie.Need-copy-requires
@@ -56,7 +56,7 @@ code-parts-requires c κs =
     (λ (l : List ℤ). AllReady (costsOf (s .args .costs .now)) (s .args .q) (s .args .n) l)
     (sym (front (s .args .buffer .now) _ (s .args .n + s .args .n / 4 + s .args .n / 4) (f .copy .ensures)))
     (all-ready (s .args .buffer .now) (costsOf (s .args .costs .now)) (s .args .q) (s .args .n) (s .pre .sizes)
-        (s .pre .passed .settings)
+    (s .pre .passed .settings)
     (s .pre .passed .buffer))
 
 enum-told : tie.Need-enum-told
@@ -96,7 +96,7 @@ returns c =
       finished-answer b t q n (s .pre .sizes) (s .pre .passed) _ _ _ e p,
       c .before .write-back .ensures
           ∙ sym (finished-coded b t q n (s .pre .sizes) (s .pre .passed) _ _ _ e p (g .0 .0) (g .0 .1 .0)
-              (g .0 .1 .1 .0)
+          (g .0 .1 .1 .0)
           (g .1)),
     )
 

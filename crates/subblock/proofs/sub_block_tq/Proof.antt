@@ -23,7 +23,7 @@ call s = requested (s .args .buffer .now) (costsOf (s .args .costs .now)) (s .ar
 settings-passed : (c : tie.After-enum-told) → verdict settingsFaults (call (start c)) ≡ passed
 settings-passed c =
     sym (c .before .before .test-settings .ensures (start c .args .buffer .now) (costsOf
-        (start c .args .costs .now))) ∙ ap verdictOf (c .enum-told .given .1)
+    (start c .args .costs .now))) ∙ ap verdictOf (c .enum-told .given .1)
 
 test-settings-requires : tie.Need-test-settings-requires
 test-settings-requires c κs = search needs
@@ -36,7 +36,7 @@ returns c =
     let t = c .before .before .before in
     let a = t .before .args in
     settings-refused (a .buffer .now) (costsOf (a .costs .now)) (a .q) _ _ (sym (t .test-settings .ensures
-        (a .buffer .now) (costsOf (a .costs .now)))
+    (a .buffer .now) (costsOf (a .costs .now)))
     ∙ ap verdictOf (c .before .first .given .1))
 
 enum-told : tie.Need-enum-told

@@ -53,12 +53,12 @@ u-answers c =
     c .code-component2 .ensures .0
     ∙ ap (partAnswer U (costsOf (a .costs .now)) (a .q))
     (second-is (costsOf (a .costs .now)) (a .q) (a .n) (a .room .now) (s .pre) _
-        (y-before-u c .code-component .ensures .1))
+    (y-before-u c .code-component .ensures .1))
 
 v-answers : (c : tie.After-code-component3)
     → (let a = start-v c .args in
     quant.quantOutcome (c .code-component3 .result) ≡ answerOf (costsOf (a .costs .now)) (a .q) (a .n)
-        (a .room .now) «V»)
+    (a .room .now) «V»)
 v-answers c =
     let s = start-v c in
     let a = s .args in
@@ -66,7 +66,7 @@ v-answers c =
     c .code-component3 .ensures .0
     ∙ ap (partAnswer «V» (costsOf (a .costs .now)) (a .q))
     (third-is (costsOf (a .costs .now)) (a .q) (a .n) (a .room .now) (s .pre) _
-        (y-before-u u .code-component .ensures .1) _
+    (y-before-u u .code-component .ensures .1) _
     (u .code-component2 .ensures .1))
 
 -- ---- Y
@@ -104,7 +104,7 @@ returns c =
     let y = answer .before .before .before in
     let a = start y .args in
     refused-parted (costsOf (a .costs .now)) (a .q) (a .n) (a .room .now) _ _ _ _ _ _ (said (y-answers y)
-        (answer .answer-y2 .given .1)) refl
+    (answer .answer-y2 .given .1)) refl
     refl refl
 
 -- ---- U
@@ -125,7 +125,7 @@ code-component-requires-2 c κs =
     let y = y-done (c .before) in
     let s = start y in
     second-ready (costsOf (s .args .costs .now)) (s .args .q) (s .args .n) (s .args .room .now) (s .pre) _
-        (y .code-component .ensures .1)
+    (y .code-component .ensures .1)
 
 enum-known-answer-u : tie.Need-enum-known-answer-u
 enum-known-answer-u c = search needs
@@ -163,7 +163,7 @@ code-component-requires-3 c κs =
     let u = u-done (c .before) in
     let s = start-u u in
     third-ready (costsOf (s .args .costs .now)) (s .args .q) (s .args .n) (s .args .room .now) (s .pre) _
-        (y-before-u u .code-component .ensures .1) _
+    (y-before-u u .code-component .ensures .1) _
     (u .code-component2 .ensures .1)
 
 enum-known-answer-v : tie.Need-enum-known-answer-v
@@ -188,7 +188,7 @@ returns-3 c =
     (said (u-answers u) (v .before .before .before .answer-u .given .1))
     (said (v-answers v) (answer .answer-v .given .1))
     (all-left (costsOf (a .costs .now)) (a .q) (a .n) (a .room .now) (s .pre) _ (y .code-component .ensures .1) _
-        (u .code-component2 .ensures .1)
+    (u .code-component2 .ensures .1)
     _ (v .code-component3 .ensures .1))
 
 same-length-4 : tie.Need-same-length-4

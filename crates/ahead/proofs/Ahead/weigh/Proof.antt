@@ -11,7 +11,7 @@ use Rattle.ahead.proofs.Ahead.weigh.Tie as tie
 
 -- where ending and going on meet again, and what was known before
 abbrev squares : tie.Joined1 → tie.After-squared-below
-squares j = j .before .before .before .before .before
+squares j = let ended = j .before .before in ended .before .before .before
 
 abbrev start : tie.Joined1 → tie.Start
 start j = squares j .before .before
@@ -55,7 +55,7 @@ add-choose c = search needs
 
 -- both prices of the place, but for the level before
 abbrev priced : tie.After-struct-known8 → tie.Joined1
-priced c = c .before .before .before .before .before
+priced c = let levelled = c .before .before in levelled .before .before .before
 
 add-choose-2 : tie.Need-add-choose-2
 add-choose-2 c = let j = priced c in record { fits = omega (arith, small j, start j .pre .modest .heads) }
@@ -78,17 +78,21 @@ choose-requires-2 c κs = search needs
 
 add-t17 : tie.Need-add-t17
 add-t17 c =
-    let j = priced (c .before .before .before .before .before) in
+    let second = c .before .before in
+    let first = second .before .before in
+    let j = priced (first .before) in
     record { fits = omega (arith, start j .pre .rest, squares j .squared-below .ensures .small) }
 
 returns : tie.Need-returns
 returns c =
-    let j = priced (c .before .before .before .before .before) in
+    let second = c .before in
+    let first = second .before .before .before in
+    let j = priced (first .before) in
     let a = start j .args in
     let o = squares j .before .make-offer .ensures in
     weighed (a .p) (a .self) _ _ (a .g) (a .l) (start j .pre .fine) _ o _ (squares j .squared-below .ensures .is)
     (ways j) _ _
-    (c .before .before .before .before .choose .ensures) (c .before .choose2 .ensures)
+    (first .choose .ensures) (second .choose2 .ensures)
 
 pub weigh-spec : {M : Type 1} → statement M
 weigh-spec =
