@@ -2,17 +2,18 @@
 // what was kept, lowered and dropped of it. The picture comes from standard input, 16 lines of 16 of # + and . each
 // ended by a newline; the words behind the program's name are the QP and lambda in millionths. What is wrong is said on
 // standard error, and nothing of the picture is shown then.
-use crate::page::picture_text;
-use crate::page::put_levels;
 use coding::Coded;
 use coding::Coding;
 use coding::Mode;
 use coding::QuantAnswer;
+use encoder::usual;
 use fates::Tally;
 use input::Arrival;
 use libc::STDERR_FILENO;
 use libc::STDOUT_FILENO;
 use numerals::number::Natural;
+use page::picture_text;
+use page::put_levels;
 use picture::first_fault;
 use picture::take_block;
 use price::Settings;
@@ -23,9 +24,6 @@ use transform::trans;
 ghost use mathlib.Core.Path.{_≡_};
 ghost use Prim.Native.Nat.{_<_, _≤_};
 ghost use Rattle.fates.specs.Fate.{Most};
-ghost use Rattle.label.specs.Lambda.{third, usualOf};
-
-mod page;
 
 // Whether all was written, and the fates of what was shown.
 struct Shown {
@@ -281,28 +279,6 @@ fn take_picture(picture: &mut [u8; 272]) -> bool {
         return wrong_line(k);
     }
     picture_ends()
-}
-
-fn root(k: u32) -> u64
-    ensures { λ r. ⌜ (r ≡ third k) × (r ≤ 904819) ⌝ }
-{
-    if k == 0 {
-        570000
-    } else if k == 1 {
-        718155
-    } else {
-        904819
-    }
-}
-
-// An encoder's lambda, in millionths.
-fn usual(qp: u32) -> u64
-    requires { ⌜ qp ≤ 63 ⌝ }
-    ensures { λ r. ⌜ r ≡ usualOf qp ⌝ }
-{
-    let one: u64 = 1;
-    let power = one << (qp / 3);
-    (root(qp % 3) * power + 128) / 256
 }
 
 fn word(i: usize, most: u64) -> Natural {

@@ -1,3 +1,106 @@
-// What crosses to C and Rust: in specs/ which call flat numbers ask for, and the flat numbers that it answers; in
-// proofs/ examples of both, computed. There is no function here: `wire` has the code, and its contracts and those of
-// the exports are records of these definitions.
+// What crosses to C and Rust: flat numbers made the inputs of a call, and its answer made flat numbers. Which call the
+// numbers ask for, and what it leaves, is defined in specs/; proofs/ has examples of both, computed. `wire` makes the
+// calls, and its contracts and those of the exports are records of these definitions.
+use coding::Coding;
+use coding::Mode;
+use coding::QuantAnswer;
+use components::Request;
+use components::SubBlockAnswer;
+use price::Settings;
+use refusals::Component;
+use refusals::component_number;
+use refusals::number;
+ghost use mathlib.Core.Path.{_≡_};
+ghost use Rattle.coding.specs.Call.{quantOutcome};
+ghost use Rattle.components.specs.Call.{subBlockOutcome};
+ghost use Rattle.surface.specs.Surface.{resultOf, modeIn, codingBy, quantWritten, requestBy, threeWritten};
+
+// Bit 2 of the flags.
+fn mode_of(flags: u32) -> Mode
+    ensures { λ r. ⌜ r ≡ modeIn flags ⌝ }
+{
+    if flags / 4 % 2 == 1 {
+        Mode::Least
+    } else {
+        Mode::Walk
+    }
+}
+
+pub fn coding_of(component: Component, log2_side: usize, qp: u32, lambda: f64, flags: u32) -> Coding
+    ensures { λ r. ⌜ r ≡ codingBy component «log2_side» qp lambda flags ⌝ }
+{
+    Coding {
+        log2: log2_side,
+        component: component,
+        settings: Settings { qp, lambda },
+        intra_slice: flags % 2 == 1,
+        intra_coded: flags / 2 % 2 == 1,
+        mode: mode_of(flags),
+    }
+}
+
+// What the quantiser answered, as its result and its answer.
+pub fn put_quant(coded: QuantAnswer, answer: &mut [u64; 3]) -> u32
+    ensures result { λ r. ⌜ r ≡ resultOf (quantOutcome coded) ⌝ }
+    ensures answer { λ _. ⌜ now (answer .exit) ≡ quantWritten (quantOutcome coded) ⌝ }
+{
+    match coded {
+        QuantAnswer::Coded(c) => {
+            *answer = [0, c.count as u64, c.price];
+            0
+        }
+        QuantAnswer::Refused(why, k) => {
+            *answer = [component_number(k) as u64, 0, 0];
+            number(why)
+        }
+    }
+}
+
+pub fn request_of(log2_luma: usize, qp: &[u32; 3], lambda: &[f64; 3], run: u32, flags: u32) -> Request
+    ensures { λ r. ⌜ r ≡ requestBy «log2_luma» (now (qp .entry)) (now (lambda .entry)) run flags ⌝ }
+{
+    Request {
+        log2_luma: log2_luma,
+        y: Settings {
+            qp: qp[0],
+            lambda: lambda[0],
+        },
+        u: Settings {
+            qp: qp[1],
+            lambda: lambda[1],
+        },
+        v: Settings {
+            qp: qp[2],
+            lambda: lambda[2],
+        },
+        run: run,
+        intra_slice: flags % 2 == 1,
+        intra_coded: flags / 2 % 2 == 1,
+        mode: mode_of(flags),
+    }
+}
+
+// What the three-component call answered, as its result and its answer.
+pub fn put_three(coded: SubBlockAnswer, answer: &mut [u64; 7]) -> u32
+    ensures result { λ r. ⌜ r ≡ resultOf (subBlockOutcome coded) ⌝ }
+    ensures answer { λ _. ⌜ now (answer .exit) ≡ threeWritten (subBlockOutcome coded) ⌝ }
+{
+    match coded {
+        SubBlockAnswer::Coded(y, u, v) => {
+            *answer = [
+                0,
+                y.count as u64,
+                u.count as u64,
+                v.count as u64,
+                y.price,
+                u.price,
+                v.price,
+            ];
+            0
+        }
+        SubBlockAnswer::Refused(why, k) => {
+            *answer = [component_number(k) as u64, 0, 0, 0, 0, 0, 0];
+            number(why)
+        }
+    }
+}

@@ -1,25 +1,18 @@
 // The calls over flat numbers, as they cross to C and Rust: whole numbers, f64s, slices and arrays go in. A result is 0
 // or a refusal's number, and what else a call answers is written into an array. Each is the call that `surface` says
 // the numbers ask for.
-use coding::Coding;
-use coding::Mode;
-use coding::QuantAnswer;
-use components::Request;
-use components::SubBlockAnswer;
-use price::Settings;
 use quantise::quant_nnz;
 use refusals::Component;
-use refusals::component_number;
 use refusals::number;
 use subblock::sub_block_tq;
+use surface::coding_of;
+use surface::put_quant;
+use surface::put_three;
+use surface::request_of;
 use transform::TransAnswer;
 use transform::trans;
-ghost use mathlib.Core.Path.{_≡_};
 ghost use Rattle.transform.specs.Call.{called};
-ghost use Rattle.coding.specs.Call.{quantOutcome};
-ghost use Rattle.components.specs.Call.{subBlockOutcome};
-ghost use Rattle.surface.specs.Surface.{resultOf, modeIn, TransLeft, codingBy, quantAsked, quantWritten, QuantLeft};
-ghost use Rattle.surface.specs.Surface.{requestBy, threeAsked, threeWritten, ThreeLeft};
+ghost use Rattle.surface.specs.Surface.{TransLeft, quantAsked, QuantLeft, threeAsked, ThreeLeft};
 
 pub fn transform(block: &mut [i16], log2_w: usize, log2_h: usize) -> u32
     ensures { λ r. ⌜ TransLeft (called (now (block .entry)) «log2_w» «log2_h») r (now (block .exit)) ⌝ }
@@ -27,47 +20,6 @@ pub fn transform(block: &mut [i16], log2_w: usize, log2_h: usize) -> u32
     match trans(block, log2_w, log2_h) {
         TransAnswer::Accepted => 0,
         TransAnswer::Refused(why) => number(why),
-    }
-}
-
-// Bit 2 of the flags.
-fn mode_of(flags: u32) -> Mode
-    ensures { λ r. ⌜ r ≡ modeIn flags ⌝ }
-{
-    if flags / 4 % 2 == 1 {
-        Mode::Least
-    } else {
-        Mode::Walk
-    }
-}
-
-fn coding_of(component: Component, log2_side: usize, qp: u32, lambda: f64, flags: u32) -> Coding
-    ensures { λ r. ⌜ r ≡ codingBy component «log2_side» qp lambda flags ⌝ }
-{
-    Coding {
-        log2: log2_side,
-        component: component,
-        settings: Settings { qp, lambda },
-        intra_slice: flags % 2 == 1,
-        intra_coded: flags / 2 % 2 == 1,
-        mode: mode_of(flags),
-    }
-}
-
-// What the quantiser answered, as its result and its answer.
-fn put_quant(coded: QuantAnswer, answer: &mut [u64; 3]) -> u32
-    ensures result { λ r. ⌜ r ≡ resultOf (quantOutcome coded) ⌝ }
-    ensures answer { λ _. ⌜ now (answer .exit) ≡ quantWritten (quantOutcome coded) ⌝ }
-{
-    match coded {
-        QuantAnswer::Coded(c) => {
-            *answer = [0, c.count as u64, c.price];
-            0
-        }
-        QuantAnswer::Refused(why, k) => {
-            *answer = [component_number(k) as u64, 0, 0];
-            number(why)
-        }
     }
 }
 
@@ -87,55 +39,6 @@ pub fn quantise(
 {
     let coding = coding_of(component, log2_side, qp, lambda, flags);
     put_quant(quant_nnz(block, costs, coding), answer)
-}
-
-fn request_of(log2_luma: usize, qp: &[u32; 3], lambda: &[f64; 3], run: u32, flags: u32) -> Request
-    ensures { λ r. ⌜ r ≡ requestBy «log2_luma» (now (qp .entry)) (now (lambda .entry)) run flags ⌝ }
-{
-    Request {
-        log2_luma: log2_luma,
-        y: Settings {
-            qp: qp[0],
-            lambda: lambda[0],
-        },
-        u: Settings {
-            qp: qp[1],
-            lambda: lambda[1],
-        },
-        v: Settings {
-            qp: qp[2],
-            lambda: lambda[2],
-        },
-        run: run,
-        intra_slice: flags % 2 == 1,
-        intra_coded: flags / 2 % 2 == 1,
-        mode: mode_of(flags),
-    }
-}
-
-// What the three-component call answered, as its result and its answer.
-fn put_three(coded: SubBlockAnswer, answer: &mut [u64; 7]) -> u32
-    ensures result { λ r. ⌜ r ≡ resultOf (subBlockOutcome coded) ⌝ }
-    ensures answer { λ _. ⌜ now (answer .exit) ≡ threeWritten (subBlockOutcome coded) ⌝ }
-{
-    match coded {
-        SubBlockAnswer::Coded(y, u, v) => {
-            *answer = [
-                0,
-                y.count as u64,
-                u.count as u64,
-                v.count as u64,
-                y.price,
-                u.price,
-                v.price,
-            ];
-            0
-        }
-        SubBlockAnswer::Refused(why, k) => {
-            *answer = [component_number(k) as u64, 0, 0, 0, 0, 0, 0];
-            number(why)
-        }
-    }
 }
 
 pub fn sub_block(

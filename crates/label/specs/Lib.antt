@@ -1,2 +1,0 @@
-pub mod Lambda
-pub mod Page
