@@ -56,7 +56,13 @@ pub fn put_quant(coded: QuantAnswer, answer: &mut [u64; 3]) -> u32
     }
 }
 
-pub fn request_of(log2_luma: usize, qp: &[u32; 3], lambda: &[f64; 3], run: u32, flags: u32) -> Request
+pub fn request_of(
+    log2_luma: usize,
+    qp: &[u32; 3],
+    lambda: &[f64; 3],
+    run: u32,
+    flags: u32,
+) -> Request
     ensures { λ r. ⌜ r ≡ requestBy «log2_luma» (now (qp .entry)) (now (lambda .entry)) run flags ⌝ }
 {
     Request {
