@@ -1,5 +1,5 @@
 //! Times the calls beside the Rust's release build, and the second mode beside the walk, in one process: nanoseconds a
-//! call, the best of several rounds, with what the copy of the input takes off; and how much the second mode saves.
+//! call, the best of many rounds, with what the copy of the input takes off; and how much the second mode saves.
 //! `bench [transform|quantise|least]`.
 
 mod blocks;
@@ -8,23 +8,33 @@ use blocks::Random;
 use galemosu::{quantise, transform, Component, Costs, Mode, Quantise, Settings};
 use std::time::Instant;
 
-const ROUNDS: usize = 9;
+const ROUNDS: usize = 60;
 
-/// The best time of a call over copies of the blocks, in nanoseconds.
-fn best(blocks: &[Vec<i16>], repeat: usize, mut call: impl FnMut(&mut [i16])) -> f64 {
+/// What two calls take over copies of the blocks, in nanoseconds, without the copy: the best of many short rounds, in
+/// which the copy and the two calls are taken in turn, so that what else the machine does meets all three.
+fn best(
+    blocks: &[Vec<i16>],
+    repeat: usize,
+    one: &mut dyn FnMut(&mut [i16]),
+    other: &mut dyn FnMut(&mut [i16]),
+) -> (f64, f64) {
     let mut room = vec![0i16; blocks[0].len()];
-    let mut least = f64::MAX;
+    let mut least = [f64::MAX; 3];
     for _ in 0..ROUNDS {
-        let start = Instant::now();
-        for _ in 0..repeat {
-            for block in blocks {
-                room.copy_from_slice(block);
-                call(std::hint::black_box(&mut room));
+        let calls: [&mut dyn FnMut(&mut [i16]); 3] = [&mut |_| {}, &mut *one, &mut *other];
+        for (call, least) in calls.into_iter().zip(&mut least) {
+            let start = Instant::now();
+            for _ in 0..repeat {
+                for block in blocks {
+                    room.copy_from_slice(block);
+                    call(std::hint::black_box(&mut room));
+                }
             }
+            *least = least.min(start.elapsed().as_nanos() as f64);
         }
-        least = least.min(start.elapsed().as_nanos() as f64);
     }
-    least / (repeat * blocks.len()) as f64
+    let [copy, one, other] = least.map(|time| time / (repeat * blocks.len()) as f64);
+    (one - copy, other - copy)
 }
 
 fn main() {
@@ -63,10 +73,9 @@ fn transforms() {
             ("text", (0..16).map(|_| random.text(w, n)).collect()),
         ];
         for (kind, blocks) in kinds {
-            let repeat = 400_000 / n + 20;
-            let copy = best(&blocks, repeat, |_| {});
-            let rust = best(&blocks, repeat, |b| oracle::transform(b, log2_w, log2_h)) - copy;
-            let ours = best(&blocks, repeat, |b| galemosu::transform(b, log2_w, log2_h).unwrap()) - copy;
+            let (rust, ours) = best(&blocks, 60_000 / n + 3, &mut |b| oracle::transform(b, log2_w, log2_h), &mut |b| {
+                galemosu::transform(b, log2_w, log2_h).unwrap()
+            });
             println!("| {w}×{} | {kind} | {rust:.0} | {ours:.0} | {:.2} |", 1 << log2_h, rust / ours);
         }
     }
@@ -78,18 +87,20 @@ fn quantisers() {
     println!("|---|---|---|---|---|---|");
     for (log2, kind, mut blocks) in recorder::blocks() {
         blocks.iter_mut().for_each(|b| transform(b, log2, log2).unwrap());
-        let repeat = 200_000 / blocks[0].len() + 20;
         let call = call(log2, recorder::LAMBDA, Mode::Walk);
         let ours = |b: &mut [i16]| quantise(b, &call).unwrap();
         let levels: u32 = blocks.iter().map(|b| ours(&mut b.clone()).count).sum();
-        let copy = best(&blocks, repeat, |_| {});
-        let rust = best(&blocks, repeat, |b| {
-            let (qp, lambda) = (recorder::QP as u8, recorder::LAMBDA);
-            std::hint::black_box(oracle::quant(qp, lambda, true, true, b, log2, log2, 0, &flat));
-        }) - copy;
-        let mine = best(&blocks, repeat, |b| {
-            std::hint::black_box(ours(b));
-        }) - copy;
+        let (rust, mine) = best(
+            &blocks,
+            30_000 / blocks[0].len() + 3,
+            &mut |b| {
+                let (qp, lambda) = (recorder::QP as u8, recorder::LAMBDA);
+                std::hint::black_box(oracle::quant(qp, lambda, true, true, b, log2, log2, 0, &flat));
+            },
+            &mut |b| {
+                std::hint::black_box(ours(b));
+            },
+        );
         println!(
             "| {} | {kind} | {} | {rust:.0} | {mine:.0} | {:.2} |",
             1 << log2,
@@ -105,15 +116,14 @@ fn modes() {
     println!("|---|---|---|---|---|---|");
     for (log2, kind, mut blocks) in recorder::blocks() {
         blocks.iter_mut().for_each(|b| transform(b, log2, log2).unwrap());
-        let repeat = 200_000 / blocks[0].len() + 20;
         let [walk, least] = [Mode::Walk, Mode::Least].map(|mode| call(log2, recorder::LAMBDA, mode));
         let levels: u32 = blocks.iter().map(|b| quantise(&mut b.clone(), &least).unwrap().count).sum();
-        let copy = best(&blocks, repeat, |_| {});
-        let [walked, searched] = [walk, least].map(|call| {
-            best(&blocks, repeat, |b| {
+        let timed = |call: Quantise<'static>| {
+            move |b: &mut [i16]| {
                 std::hint::black_box(quantise(b, &call).unwrap());
-            }) - copy
-        });
+            }
+        };
+        let (walked, searched) = best(&blocks, 30_000 / blocks[0].len() + 3, &mut timed(walk), &mut timed(least));
         println!(
             "| {} | {kind} | {} | {walked:.0} | {searched:.0} | {:.2} |",
             1 << log2,

@@ -1,4 +1,4 @@
-/* The calls of galemosu.h for a host on this processor: each is sent to far.c, which has rt's archive for x86-64 and
+/* The calls of galemosu.h for a host on this processor: each is sent to far.c, which has the archive for another and
  * is run under emulation, and what it left comes back. RUNNER and PROGRAM are given when this is compiled. */
 #include "call.h"
 #include <pthread.h>
