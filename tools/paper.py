@@ -213,7 +213,7 @@ class Paper:
         return all(x < self.threshold(intra_slice, block.b) for x in block.scaled)
 
     def skipped_price(self, block):
-        return 0
+        return block.empty_price()
 
     def diagonal(self, d, side):
         """A diagonal's columns in scan order."""

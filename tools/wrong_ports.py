@@ -126,7 +126,18 @@ port("skip asks 64 coefficients at most", is_skipped=lambda s, block, i, c: all(
 port("skip asks for one coefficient below", is_skipped=lambda s, block, i, c: any(
     x < s.threshold(i, block.b) for x in block.scaled))
 port("a skipped block's price is D", skipped_price=lambda s, block: block.uncoded[0])
-port("a skipped block's price is the empty block's", skipped_price=lambda s, block: block.empty_price())
+port("a skipped block's price is 0", skipped_price=lambda s, block: 0)
+port("a skipped block's price without D", skipped_price=lambda s, block: block.lambda_ * block.cbf[0])
+port("a skipped block priced as a coded one", skipped_price=lambda s, block: block.uncoded[0] +
+     block.lambda_ * block.cbf[1])
+port("a skipped block's D without its first place", skipped_price=lambda s, block: block.empty_price() -
+     block.distortion(0, 0))
+port("a skipped block's D over 64 places at most", skipped_price=lambda s, block: block.empty_price() -
+     block.uncoded[min(64, len(block.places))])
+port("a skipped block's D where m is above 0", skipped_price=lambda s, block: block.lambda_ * block.cbf[0] + sum(
+    block.distortion(p, 0) for p, m in enumerate(block.rounded) if m))
+port("lambda not multiplied into a skipped block's flag",
+     skipped_price=lambda s, block: block.uncoded[0] + block.cbf[0])
 port("a skipped block not cleared", cleared=lambda s, block: list(block.coefficients))
 
 # ---- scan
@@ -697,9 +708,9 @@ def without_the_skip(paper, block, least):
     return Paper.finished(paper, walked, least)
 
 
-def skipped_as_empty(paper, block, least):
+def skipped_for_nothing(paper, block, least):
     count, price, out = Paper.finished(paper, block, least)
-    return count, block.empty_price() if block.skipped else price, out
+    return count, 0 if block.skipped else price, out
 
 
 def answer_of_the_walk(count_too):
@@ -797,7 +808,7 @@ second("the walk's price", **in_it("finished", answer_of_the_walk(False)))
 second("the walk's count", **in_it("finished", answer_of_the_walk(True)))
 second("always zeros", cheapest=lambda s, block: [0] * len(block.rounded))
 second("the skip not asked", **in_it("finished", without_the_skip))
-second("a skipped block's price the empty block's", **in_it("finished", skipped_as_empty))
+second("a skipped block's price 0", **in_it("finished", skipped_for_nothing))
 second("every level without its sign", **in_it("finished", without_signs))
 second("Y written before U has been refused", **in_it("sub_block", early))
 second("a block cleared, then refused", **in_it("quantise", cleared_when_refused))

@@ -172,12 +172,7 @@ fn saving(log2: usize, lambda: f64, blocks: &[Vec<i16>]) -> (usize, Vec<f64>) {
         let walk = quantise(&mut walked, &call(log2, lambda, Mode::Walk)).unwrap().price;
         let least = quantise(&mut searched, &call(log2, lambda, Mode::Least)).unwrap().price;
         others += (walked != searched) as usize;
-        // a skipped block has the price 0 in both
-        if walk == 0 {
-            0.0
-        } else {
-            100.0 * (walk - least) as f64 / walk as f64
-        }
+        100.0 * (walk - least) as f64 / walk as f64
     };
     let saved = blocks.iter().map(saved).collect();
     (others, saved)

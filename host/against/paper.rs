@@ -204,11 +204,8 @@ impl Block<'_> {
         levels
     }
 
-    /// The price of finished levels; 0 for a block that the skip clears.
+    /// The price of finished levels, whatever chose them.
     pub fn price(&self, levels: &[i16]) -> i128 {
-        if self.skipped() {
-            return 0;
-        }
         let places = scan(1 << self.log2_side);
         let Some(end) = places.iter().rposition(|p| levels[*p] != 0) else {
             return self.uncoded() + self.cbf(0);

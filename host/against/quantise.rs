@@ -51,11 +51,13 @@ fn accepted(tally: &mut Tally, call: &Quantise, coded: Coded, ours: &[i16]) -> b
     tally.kind("sides", call.log2_side - 1);
     tally.kind("pairs of QP and component", 3 * call.settings.qp as usize + call.component as usize);
     tally.kind("pairs of flags", 2 * call.intra_slice as usize + call.intra_coded as usize);
-    tally.kind("of skipped, emptied and coded", if block.skipped() { 0 } else { 1 + (count != 0) as usize });
+    let skipped = block.skipped();
+    tally.kind("of skipped, emptied and coded", if skipped { 0 } else { 1 + (count != 0) as usize });
     let same_as_theirs = match theirs(call) {
         Some((n, price, block)) => {
             tally.both += 1;
-            n == count && price == coded.price as i64 && block == levels
+            // of a block that it skips the Rust has no cost
+            n == count && (skipped && price == 0 || price == coded.price as i64) && block == levels
         }
         None => {
             tally.beyond += 1;

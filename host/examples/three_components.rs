@@ -20,10 +20,7 @@ fn main() -> Result<(), Refused> {
     call.mode = Mode::Least;
     let coded = sub_block(&mut buffer, &call)?;
     for (name, coded) in ["Y", "U", "V"].into_iter().zip(coded) {
-        match coded.is_skipped() {
-            true => println!("{name}: cleared by the skip; its price, {}, says nothing", coded.price),
-            false => println!("{name}: {} levels that are not 0, at a price of {}", coded.count, coded.price),
-        }
+        println!("{name}: {} levels that are not 0, at a price of {}", coded.count, coded.price);
     }
     let (y, rest) = buffer.split_at(luma as usize);
     println!("Y begins with {:?}, U with {:?}", &y[..4], &rest[..4]);

@@ -60,18 +60,24 @@ static int modes_are_right(void)
     return 1;
 }
 
-/* 9 alone is skipped in an intra slice, and 10 is not; elsewhere 11 is, and 12 is not. A skipped block answers 0 and 0,
- * whichever way the block itself is coded. */
+/* 9 alone is skipped in an intra slice, and 10 is not; elsewhere 11 is, and 12 is not. Where all but an empty block's
+ * flag is free, a block that is weighed is coded; a skipped one answers count 0 and the price of an empty block, by the
+ * flag of whichever way the block itself is coded. */
 static int skip_is_right(void)
 {
-    static const struct { int16_t coefficient; uint32_t flags; int skipped; } rows[] = {
-        {9, 1, 1}, {9, 3, 1}, {10, 1, 0}, {10, 3, 0}, {11, 0, 1}, {11, 2, 1}, {12, 0, 0}, {12, 2, 0},
+    static const struct { int16_t coefficient; uint32_t flags; uint64_t price; } rows[] = {
+        {9, 1, 21266432}, {9, 3, 54788096}, {10, 1, 0}, {10, 3, 0},
+        {11, 0, 31752192}, {11, 2, 65273856}, {12, 0, 0}, {12, 2, 0},
     };
+    galemosu_costs dear = {0};
+    dear.cbf_all[0] = 1024;
+    dear.cbf_luma[0] = 1048576;
     for (unsigned i = 0; i < sizeof rows / sizeof *rows; i++) {
         int16_t block[] = {rows[i].coefficient, 0, 0, 0};
         uint64_t answer[3];
-        if (galemosu_quantise_y(block, 4, 1, 4, 1.0 / 64.0, rows[i].flags, &costs, answer) != GALEMOSU_ACCEPTED
-            || answer[1] != 0 || (answer[2] == 0) != rows[i].skipped || block[0] != 0)
+        if (galemosu_quantise_y(block, 4, 1, 4, 1.0 / 1024.0, rows[i].flags, &dear, answer) != GALEMOSU_ACCEPTED)
+            return 0;
+        if (rows[i].price ? answer[1] != 0 || answer[2] != rows[i].price || block[0] != 0 : answer[1] != 1)
             return 0;
     }
     return 1;

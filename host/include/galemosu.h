@@ -1,4 +1,4 @@
-/* The proved transform and quantiser of an EVC recorder: libgalemosu.a, version 0.2.0.
+/* The proved transform and quantiser of an EVC recorder: libgalemosu.a, version 0.3.0.
  *
  * docs/HOSTING.md walks through coding one block; docs/PROMISES.md says what is proved. What is proved speaks of
  * residuals, coefficients, levels and prices, never of what a viewer shows of a sample (docs/ANSWER.md).
@@ -35,7 +35,7 @@ extern "C" {
 #endif
 
 /* major*10000 + minor*100 + patch, of this header */
-#define GALEMOSU_VERSION 200
+#define GALEMOSU_VERSION 300
 
 /* The same of the archive that was linked. A host compares the two once, at its start: an archive of another version
  * may read other arguments. */
@@ -100,12 +100,12 @@ typedef struct {
  *
  * PRICE is squared error plus lambda times bits, in units of which 2^30 are one squared step of an 8-bit sample, and
  * 2^26 one of a 10-bit sample: a bit costs 32768 times lambda's whole number, and residuals that are left uncoded cost
- * about 2^26 times the sum of their squares. So prices of different QPs and sides can be added up and compared, but for
- * those of skipped blocks.
+ * about 2^26 times the sum of their squares. So prices of different QPs and sides can be added up and compared.
  *
  * THE SKIP. A block whose coefficients are all below 311/512 of a step, in a slice that is not intra 359/512, is
- * cleared without being weighed. It answers count 0 and price 0, whatever it has lost: do not hold that 0 against the
- * price of another block. A block that was weighed and came out empty has a price above 0.
+ * cleared without being weighed. It answers count 0 and the price of an empty block, its squared error plus lambda
+ * times the empty flag's cost, as a block does that was weighed and came out empty. A component that is not run answers
+ * 0 and 0.
  */
 
 /* Residuals become coefficients, in place: by rows, 2^log2_w wide and 2^log2_h high. Tests 1, 5 and 6, in this order.

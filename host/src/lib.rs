@@ -38,14 +38,13 @@
 //! * **Price** is squared error plus lambda times bits, in units of which 2^30 are one squared step of an 8-bit sample,
 //!   and 2^26 one of a 10-bit sample: a bit costs 32768 times lambda's whole number, and residuals that are left
 //!   uncoded cost about 2^26 times the sum of their squares. So prices of different QPs and sides can be added up and
-//!   compared, but for those of skipped blocks.
+//!   compared.
 //!
 //! # The skip
 //!
 //! A block whose coefficients are all below 311/512 of a step, in a slice that is not intra 359/512, is cleared without
-//! being weighed. It answers count 0 and price 0, whatever it has lost: that 0 must not be held against the price of
-//! another block. A block that was weighed and came out empty has a price above 0, so that [`Coded::is_skipped`] can
-//! tell the two apart.
+//! being weighed. It answers count 0 and the price of an empty block, its squared error plus lambda times the empty
+//! flag's cost, as a block does that was weighed and came out empty.
 //!
 //! # State, threads, memory
 //!
@@ -84,7 +83,7 @@ struct Readme;
 struct Hosting;
 
 /// The version of the archive that this crate is for: major·10000 + minor·100 + patch.
-pub const VERSION: u32 = 200;
+pub const VERSION: u32 = 300;
 
 /// The version of the archive that was linked. A host compares it with [`VERSION`] once, at its start: an archive of
 /// another version may read other arguments.
@@ -211,15 +210,15 @@ impl<'a> SubBlock<'a> {
 pub struct Coded {
     /// How many levels are not 0.
     pub count: u32,
-    /// The price of the block written, in the units that stand at the top of this page; 0 of a skipped block and of a
-    /// component that was not run.
+    /// The price of the block written, in the units that stand at the top of this page; 0 of a component that was not
+    /// run.
     pub price: u64,
 }
 
 impl Coded {
-    /// Whether the block was cleared by the skip, without being weighed, or was not run: its price then says nothing.
-    pub const fn is_skipped(&self) -> bool {
-        self.count == 0 && self.price == 0
+    /// Whether every level is 0, or nothing was coded, as the component was not run.
+    pub const fn is_empty(&self) -> bool {
+        self.count == 0
     }
 }
 

@@ -188,12 +188,12 @@ fn the_paper_s_levels_and_prices() {
         ([-24, 0, 0, 0], 1.0 / 1024.0, [-1, 0, 0, 0], 1, 22_020_096),
         ([16, 8, 0, 0], 0.0, [1, 0, 0, 0], 1, 16_777_216),
         ([10, 0, 0, 0], 1.0 / 64.0, [0, 0, 0, 0], 0, 42_991_616),
-        ([9, 0, 0, 0], 1.0 / 1024.0, [0, 0, 0, 0], 0, 0),
+        ([9, 0, 0, 0], 1.0 / 1024.0, [0, 0, 0, 0], 0, 22_282_240),
     ] {
         let mut block = held;
         let coded = luma(&mut block, 1, 4, lambda).unwrap();
         assert_eq!(coded, Coded { count, price });
-        assert_eq!(coded.is_skipped(), held[0] == 9);
+        assert_eq!(coded.is_empty(), count == 0);
         assert_eq!(block, levels);
     }
 }
@@ -232,27 +232,33 @@ fn a_refusal_says_its_component_and_leaves_the_block() {
     assert_eq!(refused(Component::U, 2, settings, &dear), (Refusal::Cost, None));
 }
 
-/// 9 alone is skipped in an intra slice, and 10 is not; elsewhere 11 is, and 12 is not (document 01's P9). How the
-/// block itself is coded chooses luma's flag, and nothing else.
+/// 9 alone is skipped in an intra slice, and 10 is not; elsewhere 11 is, and 12 is not (document 01's P9): where an
+/// empty block is dear, what is weighed is coded. How the block itself is coded chooses luma's flag, and nothing else;
+/// a skipped block's price has that flag too.
 #[test]
 fn the_two_flags() {
-    let mut costs = FLAT;
-    (costs.cbf_all[0], costs.cbf_luma[0]) = (1000, 2000);
-    let price = |coefficient, component, intra_slice, intra_coded| {
-        let settings = Settings { qp: 4, lambda: 1.0 / 64.0 };
-        let call = Quantise { intra_slice, intra_coded, ..Quantise::new(component, 1, settings, &costs) };
-        let coded = quantise(&mut [coefficient, 0, 0, 0], &call).unwrap();
-        assert_eq!(coded.count, 0);
-        coded.price
+    let call = |lambda, costs: &Costs, coefficient, component, intra_slice, intra_coded| {
+        let settings = Settings { qp: 4, lambda };
+        let call = Quantise { intra_slice, intra_coded, ..Quantise::new(component, 1, settings, costs) };
+        quantise(&mut [coefficient, 0, 0, 0], &call).unwrap()
     };
+    let mut dear = FLAT;
+    (dear.cbf_all[0], dear.cbf_luma[0]) = (Costs::MOST, Costs::MOST);
     for coded in [false, true] {
         let skipped = [(9, true), (10, true), (11, false), (12, false)]
-            .map(|(coefficient, slice)| price(coefficient, Component::Y, slice, coded) == 0);
+            .map(|(coefficient, slice)| call(1.0 / 1024.0, &dear, coefficient, Component::Y, slice, coded).is_empty());
         assert_eq!(skipped, [true, false, true, false]);
     }
-    for slice in [false, true] {
-        assert_eq!(price(12, Component::Y, slice, true) - price(12, Component::Y, slice, false), 1000 * 512);
-        assert_eq!(price(12, Component::U, slice, true), price(12, Component::U, slice, false));
+    let mut costs = FLAT;
+    (costs.cbf_all[0], costs.cbf_luma[0]) = (1000, 2000);
+    for (coefficient, slice) in [(12, false), (12, true), (9, true), (11, false)] {
+        let price = |component, coded| {
+            let coded = call(1.0 / 64.0, &costs, coefficient, component, slice, coded);
+            assert_eq!(coded.count, 0);
+            coded.price
+        };
+        assert_eq!(price(Component::Y, true) - price(Component::Y, false), 1000 * 512);
+        assert_eq!(price(Component::U, true), price(Component::U, false));
     }
 }
 
@@ -336,7 +342,7 @@ fn the_skip_goes_first_in_the_second_mode() {
     (costs.cbf_all, costs.cbf_luma, costs.cbf_cb, costs.cbf_cr) = (flag, flag, flag, flag);
     for component in COMPONENTS {
         let [walked, searched] = both_modes([9, 0, 0, -9], component, &costs);
-        assert_eq!(searched, (Ok(Coded { count: 0, price: 0 }), [0; 4]));
+        assert_eq!(searched, (Ok(Coded { count: 0, price: 2 * 21_233_664 + 32 * Costs::MOST }), [0; 4]));
         assert_eq!(walked, searched);
     }
 }

@@ -43,8 +43,8 @@ STATED = [
     b"accepted : 8 11 8 4 11 14 11 6 8 11 8 4 4 6 4 2",
     b"accepted : -8 -10 -8 -4 -10 -14 -10 -6 -8 -10 -8 -4 -4 -6 -4 -2", b"accepted 1 22282240 : 1 0 0 0",
     b"accepted 1 22020096 : -1 0 0 0",
-    b"accepted 1 16777216 : 1 0 0 0", b"accepted 0 42991616 : 0 0 0 0", b"accepted 0 0 : 0 0 0 0", b"accepted 1 ",
-    b"accepted 0 0 : 0 0 0 0",
+    b"accepted 1 16777216 : 1 0 0 0", b"accepted 0 42991616 : 0 0 0 0", b"accepted 0 22282240 : 0 0 0 0",
+    b"accepted 1 ", b"accepted 0 32768000 : 0 0 0 0",
     b"accepted 1 ", b"accepted ", b"refused 7 0 :", b"accepted ", b"refused 8 0 :", b"accepted ", b"refused 9 0 :",
 ]
 

@@ -2,8 +2,7 @@
 -- room for a block of side 64, and its count is at most the block's places. Code holds them in 64 bits.
 -- Assumes nothing.
 use mathlib.Core.Path.{_≡_, refl}
-use mathlib.Core.Bool.{Bool, true, false, cond}
-use mathlib.Core.List.{map}
+use mathlib.Core.Bool.{Bool, true, false}
 use Prim.Native.Nat.{ℕ, _+_, _*_, _^_, _≤_, _<_}
 use native.Mathlib.Nat.{mul-le-mul}
 use native.Mathlib.Omega.{arith}
@@ -16,13 +15,13 @@ use Rattle.price.proofs.Lambda.{lambda-below}
 use Rattle.price.proofs.Rates.{costs-in-range}
 use Rattle.price.proofs.Bounds.{walk-within}
 use Rattle.price.proofs.Promises.{nonzeros-at-most}
-use Rattle.coding.specs.Block.{Quant, area, lambdaHere, rowsHere, ruleOf, places, isSkipped, writtenIn}
-use Rattle.coding.specs.Block.{magnitudes}
-use Rattle.coding.specs.Block.{countOf, priceOf}
+use Rattle.coding.specs.Block.{Quant, area, scaleHere, lambdaHere, rowsHere, ruleOf, places, isSkipped}
+use Rattle.coding.specs.Block.{magnitudes, countOf, priceOf}
 use Rattle.coding.specs.Call.{quantVerdict, uncodedHere}
 use Rattle.coding.proofs.Modes.{price-at-most-empty}
 use Rattle.coding.proofs.Accepted.{Accepted, no-fault}
-use Rattle.coding.proofs.Promises.{magnitudes-count}
+use Rattle.coding.proofs.Promises.{magnitudes-count, written-magnitudes, skipped-price}
+use Rattle.coding.proofs.Skipped.{skipped-D-below}
 
 module _ (c : Quant) (ok : quantVerdict c ≡ passed) where
   facts : Accepted c
@@ -74,15 +73,16 @@ module _ (c : Quant) (ok : quantVerdict c ≡ passed) where
         let b = mul-le-mul h (let s : 2 ^ 48 + ruleOf c .more ≤ 2 ^ 49 = omega (arith, more-bound) in s) in
         omega (arith, w .1, b, D-bound, coded-bound)
 
-  pub price-below : priceOf c < 2 ^ 62
-  unfolding priceOf magnitudes
-  price-below = by (isSkipped c) refl
+  -- the price reported, where q is no smaller than the least scale of document 01
+  pub price-below : 14564 ≤ scaleHere c → priceOf c < 2 ^ 62
+  unfolding priceOf uncodedHere
+  price-below some = by (isSkipped c) refl
     where
-      by : (t : Bool) → isSkipped c ≡ t
-          → cond t 0 (price (ruleOf c) (cond t (map (λ L. 0) (places c)) (writtenIn (c .mode) (ruleOf c) (places c)))
-          (places c)) < 2 ^ 62
-      by true e = omega arith
-      by false e = omega (arith, price-at-most-empty (c .mode) (ruleOf c) (places c), D-bound e, empty-bound)
+      by : (t : Bool) → isSkipped c ≡ t → price (ruleOf c) (magnitudes c) (places c) < 2 ^ 62
+      by true e = omega (arith, skipped-price c ok e, skipped-D-below c ok some e, empty-bound)
+      by false e =
+          rw (written-magnitudes c ok e)
+          (omega (arith, price-at-most-empty (c .mode) (ruleOf c) (places c), D-bound e, empty-bound))
 
   pub count-below : countOf c ≤ area c
   unfolding countOf

@@ -2,6 +2,7 @@ pub mod Laid
 pub mod Modes
 pub mod Accepted
 pub mod Promises
+pub mod Skipped
 pub mod Bounds
 pub mod Surplus
 pub mod OwnRows

@@ -88,16 +88,32 @@ Numbers =
     × Gives (small (parts 0) true (p 16 ∷ p 8 ∷ p 0 ∷ p 0 ∷ [])) 1 16777216 (p 1 ∷ p 0 ∷ p 0 ∷ p 0 ∷ [])
     -- P8
     × Gives (small high true (p 10 ∷ p 0 ∷ p 0 ∷ p 0 ∷ [])) 0 42991616 (p 0 ∷ p 0 ∷ p 0 ∷ p 0 ∷ [])
-    -- P9: 9 is skipped, and loses what its D says for a price of 0; 10 isn't; in an inter slice 11 is, 12 isn't
-    × Gives (small usual true (p 9 ∷ p 0 ∷ p 0 ∷ p 0 ∷ [])) 0 0 (p 0 ∷ p 0 ∷ p 0 ∷ p 0 ∷ [])
+    -- P9: 9 is skipped, at the price that ticket 3 of document 02 states, D and the empty flag; 10 isn't; in an inter
+    -- slice 11 is, 12 isn't
+    × Gives (small usual true (p 9 ∷ p 0 ∷ p 0 ∷ p 0 ∷ [])) 0 22282240 (p 0 ∷ p 0 ∷ p 0 ∷ p 0 ∷ [])
     × (uncodedHere (small usual true (p 9 ∷ p 0 ∷ p 0 ∷ p 0 ∷ [])) ≡ 21233664)
+    × (isSkipped (small usual true (p 9 ∷ p 0 ∷ p 0 ∷ p 0 ∷ [])) ≡ true)
     × (isSkipped (small usual true (p 10 ∷ p 0 ∷ p 0 ∷ p 0 ∷ [])) ≡ false)
-    × Gives (small usual false (p 11 ∷ p 0 ∷ p 0 ∷ p 0 ∷ [])) 0 0 (p 0 ∷ p 0 ∷ p 0 ∷ p 0 ∷ [])
+    × Gives (small usual false (p 11 ∷ p 0 ∷ p 0 ∷ p 0 ∷ [])) 0 32768000 (p 0 ∷ p 0 ∷ p 0 ∷ p 0 ∷ [])
+    × (isSkipped (small usual false (p 11 ∷ p 0 ∷ p 0 ∷ p 0 ∷ [])) ≡ true)
     × (isSkipped (small usual false (p 12 ∷ p 0 ∷ p 0 ∷ p 0 ∷ [])) ≡ false)
 
 pub numbers : Numbers
 unfolding called quantAnswer quantBuffer isSkipped uncodedHere scanAt
-numbers = ((refl, refl), refl, (refl, refl), (refl, refl), (refl, refl), (refl, refl), refl, refl, (refl, refl), refl)
+numbers = (
+  (refl, refl),
+  refl,
+  (refl, refl),
+  (refl, refl),
+  (refl, refl),
+  (refl, refl),
+  refl,
+  refl,
+  refl,
+  (refl, refl),
+  refl,
+  refl,
+)
 
 -- what P5 to P12 let through
 pub own :
@@ -136,7 +152,10 @@ pub own :
     (walks (m 16 ∷ m 8 ∷ m 16 ∷ p 8 ∷ []) 1 «V» (at 10 (parts 0)) false true
     (tables (32768 ∷ 16384 ∷ 8192 ∷ 0 ∷ 0 ∷ 2 ∷ 0 ∷ 0 ∷ []) (8192 ∷ 8192 ∷ 0 ∷ 1 ∷ 8192 ∷ 1 ∷ 32768 ∷ 8192 ∷ [])
     (32768 ∷ 1 ∷ 65536 ∷ 16384 ∷ []) (0 ∷ 8192 ∷ 0 ∷ 1 ∷ 32768 ∷ 0 ∷ 8192 ∷ 0 ∷ [])))
-    0 0 (p 0 ∷ p 0 ∷ p 0 ∷ p 0 ∷ [])
+    0 167772160 (p 0 ∷ p 0 ∷ p 0 ∷ p 0 ∷ [])
+    -- a skipped block reports what an empty one costs, however dear, and is asked neither 8 nor 9
+    × Gives (walks (p 100 ∷ m 50 ∷ p 3 ∷ p 0 ∷ []) 1 U (at 63 (fin false 1 (pos 13))) true true (flat 1048576))
+    0 281478255713283 (p 0 ∷ p 0 ∷ p 0 ∷ p 0 ∷ [])
     -- Cr reads chroma's rows and its own cbf
     × Gives
     (walks (m 40 ∷ p 12 ∷ p 8 ∷ m 16 ∷ []) 1 «V» (at 10 (parts 1)) false false
@@ -163,6 +182,7 @@ pub own :
     3 62390528 (p 1 ∷ m 2 ∷ p 2 ∷ p 0 ∷ [])
 unfolding called quantAnswer quantBuffer
 own = (
+  (refl, refl),
   (refl, refl),
   (refl, refl),
   (refl, refl),
@@ -210,8 +230,8 @@ pub least :
     (λ c. Gives c 2 50331648 (p 0 ∷ m 1 ∷ m 2 ∷ p 0 ∷ []))
     -- the quick skip goes first in both
     × Both (λ mode. asked mode (p 9 ∷ p 0 ∷ p 0 ∷ p 0 ∷ []) 1 Y (at 4 usual) true true (flat 32768))
-    (λ c. Gives c 0 0 (p 0 ∷ p 0 ∷ p 0 ∷ p 0 ∷ []))
-    (λ c. Gives c 0 0 (p 0 ∷ p 0 ∷ p 0 ∷ p 0 ∷ []))
+    (λ c. Gives c 0 22282240 (p 0 ∷ p 0 ∷ p 0 ∷ p 0 ∷ []))
+    (λ c. Gives c 0 22282240 (p 0 ∷ p 0 ∷ p 0 ∷ p 0 ∷ []))
 unfolding called quantAnswer quantBuffer
 least = (
   ((refl, refl), (refl, refl)),
@@ -236,7 +256,7 @@ pub order :
     × Refuses (walks (m 32768 ∷ p 0 ∷ p 0 ∷ []) 1 U (at 63 usual) true true (flat 1048576)) 5 0
     -- 6, which holds also of a block that would be skipped, and not in the surplus
     × Refuses (walks (m 32768 ∷ p 0 ∷ p 0 ∷ p 0 ∷ []) 1 U (at 63 usual) true true (flat 1048576)) 6 1
-    × Gives (walks (p 0 ∷ p 0 ∷ p 0 ∷ p 0 ∷ m 32768 ∷ []) 1 U (at 63 usual) true true (flat 1048576)) 0 0
+    × Gives (walks (p 0 ∷ p 0 ∷ p 0 ∷ p 0 ∷ m 32768 ∷ []) 1 U (at 63 usual) true true (flat 1048576)) 0 33554432
     (p 0 ∷ p 0 ∷ p 0 ∷ p 0 ∷ m 32768 ∷ [])
 unfolding called quantAnswer quantBuffer
 order = ((refl, refl), (refl, refl), (refl, refl), (refl, refl), (refl, refl), (refl, refl), (refl, refl), (refl, refl))

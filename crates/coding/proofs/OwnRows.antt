@@ -79,7 +79,7 @@ module _ (c : Quant) (a b : Costs) (same : SameRows (rowsHere c) a b) where
 
   pub price-same : priceOf (by a) ≡ priceOf (by b)
   unfolding priceOf
-  price-same = rw (magnitudes-same, rule-same, skipped-same, places-same)
+  price-same = rw (magnitudes-same, rule-same, places-same)
 
   pub levels-same : quantised (by a) ≡ quantised (by b)
   unfolding quantised scanned blockPlaces

@@ -1,12 +1,13 @@
--- Demand 3 of the call itself, over its buffer at entry and at exit: what a level is, that what is reported is the
--- count and the price of the levels left in the buffer, and which blocks are skipped; then, by the mode, that no cut of
--- the walk is cheaper, or no block at all.
+-- Demand 3 of the call itself, over its buffer at entry and at exit. Of every accepted block: what is reported is the
+-- count and the price of the levels left in the buffer, and bounds their squared error. Of a walked one: what a level
+-- is, and, by the mode, that no cut of the walk is cheaper, or no block at all. Then which blocks are skipped, and what
+-- these report.
 -- Assumes nothing.
 use mathlib.Core.Path.{_≡_, refl, sym, _∙_, ap, subst}
 use mathlib.Core.Logic.{_⊎_, inl, inr, ⊎-elim}
 use mathlib.Core.Bool.{Bool, true, false, not, cond}
 use mathlib.Core.List.{List, [], _∷_, map}
-use Prim.Native.Nat.{ℕ, suc, _^_, _≤_, _<_}
+use Prim.Native.Nat.{ℕ, suc, _+_, _^_, _≤_, _<_}
 use native.Mathlib.Nat.{one-le-pow}
 use native.Mathlib.Omega.{arith}
 use borrow.Author.Tests.{leb-false, lt-leb, not-true}
@@ -21,20 +22,24 @@ use Rattle.integers.proofs.Lists.{map-at, none-passes, passed-by-none}
 use Rattle.scan.specs.Scan.{scan, scanAt}
 use Rattle.scan.proofs.OneToOne.{scan-length}
 use Rattle.refusals.specs.Faults.{passed}
+use Rattle.refusals.proofs.First.{answer-given}
 use Rattle.price.specs.Level.{scaled, nearest, threshold, signed}
 use Rattle.price.specs.Rule.{Allowed}
-use Rattle.price.specs.Price.{nonzeros, price}
+use Rattle.price.specs.Price.{squaredError, nonzeros, price}
 use Rattle.price.specs.Walk.{walked, cutAt, Cut, cutOf, written}
 use Rattle.price.proofs.Level.{signed-zero, signed-magnitude, signed-sign}
+use Rattle.price.proofs.Price.{price-of-zeros}
+use Rattle.price.proofs.Bounds.{squared-error-at-most-price}
 use Rattle.price.proofs.Promises.{written-is-the-walk-cut, written-no-dearer, empty-wins-then-earliest}
 use Rattle.price.proofs.Dictionary.{Before}
 use Rattle.price.proofs.Blocks.{Block}
 use Rattle.price.proofs.Cheapest.{none-cheaper, none-earlier, never-dearer-than-the-walk}
+use Rattle.coding.specs.declared.Coded.{Coded}
 use Rattle.coding.specs.declared.Mode.{Mode}
 use Rattle.coding.specs.declared.Mode.the-variants.{Walk, Least}
 use Rattle.coding.specs.Block.{Quant, area, scaleHere, shiftHere, ruleOf, blockPlaces, scanned, places}
 use Rattle.coding.specs.Block.{isSkipped, writtenIn, magnitudes, signs, priceOf, quantised}
-use Rattle.coding.specs.Call.{coded, quantVerdict, quantAnswer, quantBuffer}
+use Rattle.coding.specs.Call.{coded, quantVerdict, uncodedHere, quantAnswer, quantBuffer}
 use Rattle.coding.proofs.Modes.{length-written, zero-or-m-or-m-1}
 use Rattle.coding.proofs.Laid.{signs-length, signs-at, laid-on-scan, surplus-kept}
 use Rattle.coding.proofs.Accepted.{Accepted, no-fault}
@@ -66,6 +71,11 @@ placeOf c p = scanAt (2 ^ c .lw) (2 ^ c .lh) p
 abbrev pub rounded : Quant → ℕ → ℕ
 rounded c p = nearest (shiftHere c) (scaled (scaleHere c) (at (c .buffer) (placeOf c p)))
 
+-- an answer reports the price of its call
+pub reported : (c : Quant) (count p : ℕ) → quantAnswer c ≡ coded count p → priceOf c ≡ p
+unfolding quantAnswer
+reported c count p e = ap (λ (a : Coded). a .price) (answer-given _ (quantVerdict c) _ e)
+
 module _ (c : Quant) (ok : quantVerdict c ≡ passed) where
   facts : Accepted c
   facts = no-fault c ok
@@ -78,7 +88,7 @@ module _ (c : Quant) (ok : quantVerdict c ≡ passed) where
   unfolding scanned
   scanned-count = length-map (blockPlaces c) (λ p. at (c .buffer) p) ∙ places-count
 
-  L-count : length (places c) ≡ area c
+  pub L-count : length (places c) ≡ area c
   unfolding places
   L-count = length-map (scanned c) (λ z. scaled (scaleHere c) z) ∙ scanned-count
 
@@ -134,9 +144,37 @@ module _ (c : Quant) (ok : quantVerdict c ≡ passed) where
   unfolding quantAnswer
   answer-is = rw ok
 
+  -- ---- every block, in either mode, skipped or not
+  -- the price of the block left in the buffer
+  abbrev pub its-price : ℕ
+  its-price = price (ruleOf c) (magnitudesIn c (quantBuffer c)) (places c)
+
+  price-is : priceOf c ≡ its-price
+  unfolding priceOf
+  price-is = ap (λ (l : List ℕ). price (ruleOf c) l (places c)) (sym read-back)
+
+  -- the count reported is that of the nonzero levels in the buffer, and the price reported is the block's
+  pub count-and-price-are-the-block's : quantAnswer c ≡ coded (nonzeros (magnitudesIn c (quantBuffer c))) its-price
+  count-and-price-are-the-block's =
+      answer-is
+      ∙ ap (λ (n : ℕ). coded n (priceOf c)) (ap nonzeros (sym read-back))
+      ∙ ap (coded (nonzeros (magnitudesIn c (quantBuffer c)))) price-is
+
+  -- the squared error of the block left in the buffer is at most the price reported
+  pub error-at-most-the-price : (count p : ℕ) → quantAnswer c ≡ coded count p
+      → squaredError (ruleOf c) (magnitudesIn c (quantBuffer c)) (places c) ≤ p
+  error-at-most-the-price count p e =
+      let n = length-map (blockPlaces c) (λ p. natAbs (at (quantBuffer c) p)) ∙ places-count in
+      omega (
+        arith,
+        squared-error-at-most-price (ruleOf c) (magnitudesIn c (quantBuffer c)) (places c) (n ∙ sym L-count),
+        price-is,
+        reported c count p e,
+      )
+
   -- ---- a block that is not skipped, in either mode
   module _ (walks : isSkipped c ≡ false) where
-    written-magnitudes : magnitudes c ≡ writtenIn (c .mode) (ruleOf c) (places c)
+    pub written-magnitudes : magnitudes c ≡ writtenIn (c .mode) (ruleOf c) (places c)
     unfolding magnitudes
     written-magnitudes = rw walks
 
@@ -154,22 +192,6 @@ module _ (c : Quant) (ok : quantVerdict c ≡ passed) where
         (L-at p h)
         (zero-or-m-or-m-1 (c .mode) (ruleOf c) (places c) p (omega (arith, L-count)))) in
         rw (level-is p h) (level-of (at (c .buffer) (placeOf c p)) (rounded c p) a m)
-
-    -- the price of the block left in the buffer
-    abbrev pub its-price : ℕ
-    its-price = price (ruleOf c) (magnitudesIn c (quantBuffer c)) (places c)
-
-    price-is : priceOf c ≡ price (ruleOf c) (magnitudes c) (places c)
-    unfolding priceOf
-    price-is = rw walks
-
-    -- the count reported is that of the nonzero levels in the buffer, and the price reported is the block's
-    pub count-and-price-are-the-block's : quantAnswer c ≡ coded (nonzeros (magnitudesIn c (quantBuffer c))) its-price
-    count-and-price-are-the-block's =
-        answer-is
-        ∙ ap (λ (n : ℕ). coded n (priceOf c)) (ap nonzeros (sym read-back))
-        ∙ ap (λ (n : ℕ). coded (nonzeros (magnitudesIn c (quantBuffer c))) n)
-        (price-is ∙ ap (λ (l : List ℕ). price (ruleOf c) l (places c)) (sym read-back))
 
     -- the block left in the buffer is the one that the mode writes
     block-is : (v : Mode) → c .mode ≡ v → magnitudesIn c (quantBuffer c) ≡ writtenIn v (ruleOf c) (places c)
@@ -243,11 +265,13 @@ module _ (c : Quant) (ok : quantVerdict c ≡ passed) where
     unfolding magnitudes
     skipped-magnitudes = rw skips
 
-    skipped-price : priceOf c ≡ 0
-    unfolding priceOf
-    skipped-price = rw skips
+    -- D and lambda × cbf[0]
+    pub skipped-price : priceOf c ≡ uncodedHere c + ruleOf c .empty
+    unfolding priceOf uncodedHere
+    skipped-price =
+        ap (λ (l : List ℕ). price (ruleOf c) l (places c)) skipped-magnitudes ∙ price-of-zeros (ruleOf c) (places c)
 
-    pub skipped-count-and-price : quantAnswer c ≡ coded 0 0
+    pub skipped-count-and-price : quantAnswer c ≡ coded 0 (uncodedHere c + ruleOf c .empty)
     skipped-count-and-price =
         answer-is
         ∙ ap (λ (n : ℕ). coded n (priceOf c)) (ap nonzeros skipped-magnitudes ∙ none-nonzero (places c))

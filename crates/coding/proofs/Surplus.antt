@@ -128,7 +128,7 @@ module _ (B : List ℤ) (t : Costs) (a : Coding) (room : 2 ^ a .log2 * 2 ^ a .lo
 
   price-same : priceOf part ≡ priceOf all-of
   unfolding priceOf
-  price-same = rw (magnitudes-same, skipped-same, rule-same, places-same)
+  price-same = rw (magnitudes-same, rule-same, places-same)
 
   pub surplus-untested : quantAnswer part ≡ quantAnswer all-of
   unfolding quantAnswer

@@ -1,6 +1,6 @@
 -- One call in its two modes. Refusals are unchanged by the mode: the verdict is the same in both, so that a call that
 -- is refused in one is refused in the other with the same number and component, and leaves the same buffer. The price
--- that the second mode reports is never above the walk's, a skipped block's 0 included. So who changes the mode meets
+-- that the second mode reports is never above the walk's, a skipped block's included. So who changes the mode meets
 -- no other refusal, and pays no more.
 -- Assumes nothing.
 use mathlib.Core.Path.{_≡_, refl, sym, ap, _∙_}
@@ -9,14 +9,14 @@ use mathlib.Core.List.{map}
 use Prim.Native.Nat.{ℕ, _≤_}
 use native.Mathlib.Omega.{arith}
 use Rattle.refusals.specs.Faults.{refused}
-use Rattle.refusals.proofs.First.{refusing-verdict, refusing-answer, answer-given}
+use Rattle.refusals.proofs.First.{refusing-verdict, refusing-answer}
 use Rattle.price.specs.Price.{price}
 use Rattle.price.proofs.Cheapest.{never-dearer-than-the-walk}
-use Rattle.coding.specs.declared.Coded.{Coded}
 use Rattle.coding.specs.declared.Mode.{Mode}
 use Rattle.coding.specs.declared.Mode.the-variants.{Walk, Least}
 use Rattle.coding.specs.Block.{Quant, ruleOf, places, isSkipped, writtenIn, priceOf}
 use Rattle.coding.specs.Call.{quantVerdict, coded, quantAnswer, quantBuffer}
+use Rattle.coding.proofs.Promises.{reported}
 
 -- the same call in another mode
 abbrev pub inMode : Mode → Quant → Quant
@@ -63,7 +63,7 @@ refused-in-both m n c number component e =
       refused-leaves (inMode n c) number component w ∙ sym (refused-leaves (inMode m c) number component v),
     )
 
--- ---- prices, of every call: 0 in both modes where the block is skipped
+-- ---- prices, of every call: a skipped block's is the same in both modes
 pub price-never-dearer : (c : Quant) → priceOf (inMode Least c) ≤ priceOf (inMode Walk c)
 unfolding priceOf
 price-never-dearer c = by (isSkipped c)
@@ -71,14 +71,9 @@ price-never-dearer c = by (isSkipped c)
     of : Bool → Mode → ℕ
     of t mode = price (ruleOf c) (cond t (map (λ L. 0) (places c)) (writtenIn mode (ruleOf c) (places c))) (places c)
 
-    by : (t : Bool) → cond t 0 (of t Least) ≤ cond t 0 (of t Walk)
+    by : (t : Bool) → of t Least ≤ of t Walk
     by true = omega arith
     by false = never-dearer-than-the-walk (ruleOf c) (places c)
-
--- an answer reports the price of its call
-reported : (c : Quant) (n p : ℕ) → quantAnswer c ≡ coded n p → priceOf c ≡ p
-unfolding quantAnswer
-reported c n p e = ap (λ (a : Coded). a .price) (answer-given _ (quantVerdict c) _ e)
 
 pub reported-never-dearer : (c : Quant) (n p n′ p′ : ℕ) → quantAnswer (inMode Least c) ≡ coded n p
     → quantAnswer (inMode Walk c) ≡ coded n′ p′ → p ≤ p′

@@ -171,13 +171,10 @@ unfoldable pub countOf : Quant → ℕ
 unfolding magnitudes nonzeros
 countOf c = nonzeros (magnitudes c)
 
--- the price of the block written; a skipped block's is 0
+-- the price of the block written, of a skipped block too
 unfoldable pub priceOf : Quant → ℕ
-unfolding isSkipped magnitudes price ruleOf places
-priceOf c =
-    let r = ruleOf c in
-    let x = price r (magnitudes c) (places c) in
-    cond (isSkipped c) 0 x
+unfolding magnitudes price ruleOf places
+priceOf c = let r = ruleOf c in price r (magnitudes c) (places c)
 
 unfoldable pub quantised : Quant → List ℤ
 unfolding laid blockPlaces signs scanned magnitudes

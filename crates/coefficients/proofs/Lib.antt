@@ -2,3 +2,5 @@ pub mod Lowest
 pub mod Reaching
 pub mod Parts
 pub mod Uncoding
+pub mod Blank
+pub mod Small

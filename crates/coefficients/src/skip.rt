@@ -1,12 +1,9 @@
 // Magnitudes of coefficients, and the quick skip: a part of the block at a time, by the part's largest magnitude.
 ghost use mathlib.Core.Path.{_≡_};
 ghost use Prim.Native.Nat.{_≤_, _<_, max};
-ghost use lib.Dec.{leb};
 ghost use lib.ListN.{length, replicate};
 ghost use lib.IntN.{natAbs, pos};
-ghost use Rattle.integers.specs.Tests.{some};
-ghost use Rattle.price.specs.Level.{scaled};
-ghost use Rattle.coefficients.specs.Inner.Coefficients.{Largest, PartEnd};
+ghost use Rattle.coefficients.specs.Inner.Coefficients.{Largest, PartEnd, Reached};
 
 pub fn absolute(c: i16) -> u32
     ensures { λ r. ⌜ (r ≡ natAbs c) × (r ≤ 32768) ⌝ }
@@ -44,23 +41,34 @@ pub fn part_end(i: usize, n: usize, most: usize) -> usize
     if n - i < most { n } else { i + most }
 }
 
-// Whether some L reaches the threshold: stops at the first part that has one.
-pub fn is_walked(block: &[i16], q: u32, threshold: u64) -> bool
+// What the quick skip finds: whether the block is walked, and the largest magnitude that it has looked at.
+pub struct Reach {
+    pub walked: bool,
+    pub top: u32,
+}
+
+// Whether some L reaches the threshold: stops at the first part that has one. Where none does, it has looked at all.
+pub fn reaching(block: &[i16], q: u32, threshold: u64) -> Reach
     requires { ⌜ (q ≤ 32767) × (1 ≤ threshold) ⌝ }
-    ensures { λ r. ⌜ r ≡ some (λ z. leb threshold (scaled q z)) (now (block .entry)) ⌝ }
+    ensures { λ r. ⌜ Reached q threshold (now (block .entry)) r ⌝ }
 {
+    let mut top: u32 = 0;
     let mut i = 0;
     let walked = loop {
         if block.len() <= i {
             break false;
         }
         let e = part_end(i, block.len(), 64);
-        if threshold <= largest(&block[i..e]) as u64 * q as u64 {
+        let part = largest(&block[i..e]);
+        if top < part {
+            top = part;
+        }
+        if threshold <= top as u64 * q as u64 {
             break true;
         }
         i = e;
     };
-    walked
+    Reach { walked, top }
 }
 
 pub fn clear(block: &mut [i16])

@@ -5,9 +5,9 @@ use refusals::Component;
 use weights::prices::Prices;
 ghost use Prim.Native.Nat.{ℕ, _≤_, _<_, _+_, _*_, _^_};
 ghost use lib.ListN.{length, getD};
-ghost use Rattle.price.specs.Costs.{InRange};
+ghost use Rattle.price.specs.Costs.{InRange, costsOf};
 ghost use Rattle.contexts.specs.Inner.Rows.{rowsIn, Inside, ContextsOf};
-ghost use Rattle.contexts.specs.Inner.Reading.{PairOf, PricesOf};
+ghost use Rattle.contexts.specs.Inner.Reading.{PairOf, EmptyPrice, PricesOf};
 
 // Where a component's pairs stand in each table.
 pub struct Contexts {
@@ -68,6 +68,15 @@ fn pair_at(table: &[u64], row: usize, lambda: u64) -> Pair
         first: lambda * table[k],
         second: lambda * table[k + 1],
     }
+}
+
+// What an empty block's flag costs, by the cost tables as they are lent: all that is read of them for a skipped block.
+pub fn empty_price(costs: &[u64; 28], at: Contexts, lambda: u64) -> u64
+    requires { ⌜ InRange (costsOf (now costs)) × Inside at × (lambda ≤ 2 ^ 28) ⌝ }
+    ensures { λ r. ⌜ EmptyPrice lambda (costsOf (now (costs .entry))) (rowsIn at) r ⌝ }
+{
+    let k = 20 + 2 * at.cbf;
+    lambda * costs[k]
 }
 
 pub fn prices_of(costs: Costs, at: Contexts, lambda: u64) -> Prices

@@ -13,9 +13,9 @@ ghost use Rattle.surface.specs.Surface.{TransLeft, quantAsked, QuantLeft, three
 // and the host crate have the same number.
 #[no_mangle]
 pub extern "C" fn galemosu_version() -> u32
-    ensures { λ r. ⌜ r ≡ 200 ⌝ }
+    ensures { λ r. ⌜ r ≡ 300 ⌝ }
 {
-    200
+    300
 }
 
 #[no_mangle]

@@ -4,7 +4,7 @@
 -- Assumes nothing.
 use mathlib.Core.Path.{_≡_, refl, ap, _∙_}
 use mathlib.Core.Bool.{Bool, false, cond}
-use mathlib.Core.List.{List, [], _∷_}
+use mathlib.Core.List.{List, [], _∷_, map}
 use Prim.Native.Nat.{ℕ, zero, suc, _+_, _*_, _<_}
 use native.Mathlib.Omega.{arith}
 use native.Mathlib.Nat.{suc-mul}
@@ -95,6 +95,15 @@ rest-later r z a ls p ps k h = rw (size-cut ls k h)
 pub price-empty : (r : Rule) (ls ps : List ℕ) → price r (cutAt 0 ls) ps ≡ uncoded r ps + r .empty
 unfolding price
 price-empty r ls ps = rw (size-empty ls)
+
+-- a 0 for each place is the block cut before its first
+zeros-are-cut : (ps : List ℕ) → map (λ p. 0) ps ≡ cutAt 0 ps
+unfolding cutAt
+zeros-are-cut [] = refl
+zeros-are-cut (p ∷ ps) = ap (λ (l : List ℕ). 0 ∷ l) (zeros-are-cut ps)
+
+pub price-of-zeros : (r : Rule) (ps : List ℕ) → price r (map (λ p. 0) ps) ps ≡ uncoded r ps + r .empty
+price-of-zeros r ps = ap (λ (ls : List ℕ). price r ls ps) (zeros-are-cut ps) ∙ price-empty r ps ps
 
 pub price-cut : (r : Rule) (ls ps : List ℕ) (k : ℕ) → length ls ≡ length ps → 0 < getD ls k 0
     → price r (cutAt (suc k) ls) ps ≡ r .coded + rest r false (cutAt (suc k) ls) ps

@@ -1,3 +1,4 @@
 -- What functions say to one another: nobody has to believe it, as what a call promises does not cite it.
+pub mod Bits
 pub mod OnePass
 pub mod Search

@@ -1,15 +1,17 @@
 -- What refusals 6 to 9 leave: coefficients of at most 32767, magnitudes of at most 32767 that cost at most 2^61, and a
--- D of at most 2^60. By these the walk's totals stay below 2^62, and so does the price. Assumes nothing.
+-- D of at most 2^60. By these the walk's totals stay below 2^62, and so does the price. And what the skip leaves: small
+-- coefficients. Assumes nothing.
 use mathlib.Core.Path.{_≡_, sym, ap, _∙_}
 use mathlib.Core.Logic.{⊎-elim}
 use mathlib.Core.List.{List}
-use Prim.Native.Nat.{ℕ, suc, _+_, _*_, _^_, _≤_, _<_}
+use Prim.Native.Nat.{ℕ, suc, _+_, _-_, _*_, _/_, _^_, _≤_, _<_}
 use native.Mathlib.Omega.{arith}
-use native.Mathlib.Nat.{mul-le-mul, mul-le-mul-left, mul-le-mul-right, mul-assoc, mul-left-comm}
+use native.Mathlib.Nat.{mul-le-mul, mul-le-mul-left, mul-le-mul-right, mul-assoc, mul-left-comm, mul-mul-mul-comm}
+use lib.Pow.{pow-mono, pow-add}
 use lib.IntN.{ℤ, natAbs}
 use Rattle.integers.specs.Sum.{at, over, onMax}
 use Rattle.integers.proofs.Order.{below-or-not}
-use Rattle.price.specs.Level.{scaled, nearest}
+use Rattle.price.specs.Level.{shiftOf, scaled, nearest}
 use Rattle.price.specs.declared.Costs.{Costs}
 use Rattle.price.specs.Costs.{InRange, Rows, entry}
 use Rattle.scaling.specs.declared.scale.Scale.{Scale}
@@ -52,6 +54,19 @@ module _ (B : List ℤ) (top : ℕ) (e : top ≡ over onMax natAbs B) (few : top
         level = omega arith;
         price = omega arith;
       }
+
+-- the coefficients of a skipped block: L below 2^b leaves the square of all at most 2^31, whatever the side and QP
+pub skipped-energy : (l qp q top : ℕ) → l ≤ 19 → qp ≤ 63 → 14564 ≤ q → top * q ≤ 2 ^ shiftOf l qp
+    → 2 ^ l * 2 ^ l * (top * top) ≤ 2 ^ 31
+unfolding shiftOf
+skipped-energy l qp q top hl hq low h =
+    let b = 19 - l + qp / 6 in
+    let w = 2 ^ l * top in
+    let near : 2 ^ l * (top * 14564) ≤ 2 ^ l * 2 ^ b =
+    mul-le-mul-left (2 ^ l) (let z : top * 14564 ≤ 2 ^ b = omega (arith, mul-le-mul-left top low) in z) in
+    let most : 2 ^ (l + b) ≤ 2 ^ 29 = pow-mono {i = l + b} {j = 29} (omega arith) in
+    let few : w ≤ 36863 = omega (arith, near, most, pow-add 2 l b, mul-assoc (2 ^ l) top 14564) in
+    omega (arith, mul-le-mul few few, mul-mul-mul-comm (2 ^ l) (2 ^ l) top top)
 
 -- the sum that code holds is D where it is at most 2^60
 pub held-is : (s r : ℕ) → Held s r → r ≤ 2 ^ 60 → (r ≡ s) × (s ≤ 2 ^ 60)

@@ -3,11 +3,11 @@
 use mathlib.Core.Path.{_≡_, refl, sym, ap, subst, fun-ext, _∙_}
 use mathlib.Core.Bool.{Bool, true, false, not, _||_}
 use mathlib.Core.List.{List, [], _∷_, map}
-use Prim.Native.Nat.{ℕ, zero, suc, _+_, _*_, _/_, _^_, _≤_, _<_, max}
+use Prim.Native.Nat.{ℕ, suc, _+_, _*_, _/_, _^_, _≤_, _<_, max}
 use native.Mathlib.Omega.{arith}
 use lib.Dec.{leb, ltb}
 use lib.Pow.{pow-pos}
-use lib.ListN.{length, getD, replicate, length-replicate, length-map, getD-replicate}
+use lib.ListN.{length, getD, replicate, length-replicate, getD-replicate}
 use lib.Seq.{take-all, ext-getD}
 use lib.IntN.{ℤ, pos, negsuc, natAbs}
 use borrow.Author.Tests.{lt-ltb, le-ltb, le-leb}
@@ -17,17 +17,18 @@ use Rattle.integers.proofs.Sums.{Lawful, nats}
 use Rattle.integers.proofs.Over.{tests, maxima, some-over, over-map}
 use Rattle.scan.specs.Scan.{scan, scanAt}
 use Rattle.tables.specs.Scales.{forward, scaleOf, errorScale}
+use Rattle.tables.proofs.Range.{scale-range}
 use Rattle.scan.proofs.OneToOne.{scan-length}
 use Rattle.scan.proofs.Order.{scan-over, scan-hit}
 use Rattle.refusals.specs.Numbers.{numberOf, componentOf}
 use Rattle.refusals.specs.Sides.{mostLog2}
-use Rattle.refusals.specs.Faults.{Fault, refused, outside}
+use Rattle.refusals.specs.Faults.{Fault, refused, outside, passed}
 use Rattle.refusals.proofs.First.{First, later, None, end, but, refused-with-the-first, accepted-without-a-fault}
 use Rattle.price.specs.declared.Settings.{Settings}
 use Rattle.price.specs.Lambda.{lambdaRefused}
-use Rattle.price.specs.Level.{shiftOf, scaled, nearest, distortion, threshold, signed}
+use Rattle.price.specs.Level.{shiftOf, scaled, nearest, distortion, threshold}
 use Rattle.price.specs.declared.Costs.{Costs}
-use Rattle.price.specs.Costs.{Rows, costRefused, rate}
+use Rattle.price.specs.Costs.{Rows, costRefused, entry, rate}
 use Rattle.price.specs.Rule.{Rule}
 use Rattle.price.specs.Price.{uncoded, nonzeros, price}
 use Rattle.coding.specs.declared.Coded.{Coded}
@@ -50,7 +51,9 @@ use Rattle.signs.specs.Inner.Signs.{inOrder}
 use Rattle.levels.specs.Inner.Levels.{placesBy, CodedAs}
 use Rattle.contexts.proofs.Pricing.{rate-weighed}
 use Rattle.coefficients.proofs.Reaching.{largest-is}
-use Rattle.coding.proofs.Laid.{signs-at, signs-length, laid-length, laid-on-scan}
+use Rattle.coding.proofs.Laid.{laid-length}
+use Rattle.coding.proofs.Promises.{skipped-is-cleared, skipped-count-and-price}
+use Rattle.coding.proofs.Skipped.{skipped-D-below}
 
 -- ---- the two ways out
 module _ (c : Quant) where
@@ -170,6 +173,16 @@ module _ (B : List ℤ) (t : Costs) (a : Coding) where
     unfolding scanned blockPlaces called
     scanned-here = refl
 
+    -- q is a scale of document 01's
+    scale-here : 14564 ≤ scaleHere call
+    unfolding scaleHere called
+    scale-here = scale-range (s .qp) .0
+
+    -- the empty block's flag
+    pub empty-here : ruleOf call .empty ≡ lambdaHere call * entry (t .cbf) (rows .cbf) 0
+    unfolding ruleOf rowsHere called
+    empty-here = refl
+
     -- the quick skip
     pub skipped-here : isSkipped call
         ≡ not (some (λ z. leb (threshold intra (shiftOf l (s .qp))) (scaled (scaleOf forward (s .qp)) z)) B)
@@ -222,84 +235,41 @@ module _ (B : List ℤ) (t : Costs) (a : Coding) where
         (but (lambda-test false (early .lambda))
         (but (cost-test false (early .costs)) (but (length-right (omega (arith, early .long))) h))))
 
-    -- ---- a skipped block becomes all 0, with count 0 and price 0
+    -- ---- a skipped block becomes all 0, with count 0 and the price of an empty block
     module _ (yes : isSkipped call ≡ true) (none : some (λ z. eqℤ z (negsuc 32767)) B ≡ false) where
       no-fault : None call quantFaults
       unfolding levelFault priceFault distortionFault
       no-fault = none-at-all (but (sample-here false none) (but (rw yes) (but (rw yes) (but (rw yes) end))))
 
-      abbrev blank : ℕ → ℕ
-      blank L = 0
+      pub skip-accepted : quantVerdict call ≡ passed
+      unfolding quantVerdict
+      skip-accepted = accepted-without-a-fault call quantFaults no-fault
 
-      zeros : List ℕ
-      zeros = map blank (places call)
-
-      magnitudes-none : magnitudes call ≡ zeros
-      unfolding magnitudes zeros
-      magnitudes-none = rw yes
-
-      count-none : (ps : List ℕ) → nonzeros (map blank ps) ≡ 0
-      unfolding nonzeros
-      count-none [] = refl
-      count-none (p ∷ ps) = count-none ps
-
-      price-none : priceOf call ≡ 0
-      unfolding priceOf
-      price-none = rw yes
-
-      nothing-signed : (z : ℤ) → signed z 0 ≡ pos 0
-      unfolding signed
-      nothing-signed (pos n) = refl
-      nothing-signed (negsuc n) = refl
-
-      none-at : (ps : List ℕ) (n : ℕ) → getD (map blank ps) n 0 ≡ 0
-      none-at [] n = refl
-      none-at (p ∷ ps) zero = refl
-      none-at (p ∷ ps) (suc n) = none-at ps n
-
-      cleared : laid (scan side side) (signs (inOrder side side B) zeros) B ≡ replicate (length B) (pos 0)
-      unfolding zeros places scanned blockPlaces scaleHere called
+      cleared : quantBuffer call ≡ replicate (length B) (pos 0)
+      unfolding quantised called area
       cleared =
-          ext-getD (pos 0) (laid (scan side side) vs B) (replicate (length B) (pos 0))
-          (laid-length (scan side side) vs B ∙ sym (length-replicate (length B) (pos 0)))
+          ext-getD (pos 0) (quantBuffer call) (replicate (length B) (pos 0))
+          (kept ∙ sym (length-replicate (length B) (pos 0)))
           (λ b h.
-          let inside : b < length B = omega (arith, early .long, laid-length (scan side side) vs B) in
+          let inside : b < length B = omega (arith, kept) in
           let q = scan-hit side side some-side some-side full b (omega (arith, early .long)) in
-          subst (λ (n : ℕ). at (laid (scan side side) vs B) n ≡ pos 0) (q .2) (at-place (q .0) (q .1))
+          subst (λ (n : ℕ). at (quantBuffer call) n ≡ pos 0) (q .2) (at-place (q .0) (q .1))
           ∙ sym (getD-replicate (length B) b (pos 0) (pos 0) inside))
         where
-          vs : List ℤ
-          vs = signs (inOrder side side B) (map blank (places call))
+          kept : length (quantBuffer call) ≡ length B
+          kept =
+              ap length (accepted-answer call no-fault .1)
+              ∙ laid-length (blockPlaces call) (signs (scanned call) (magnitudes call)) B
 
-          coefficients : length (inOrder side side B) ≡ side * side
-          coefficients = length-map (scan side side) (λ p. at B p) ∙ full
+          at-place : (n : ℕ) → n < side * side → at (quantBuffer call) (scanAt side side n) ≡ pos 0
+          at-place n h = skipped-is-cleared call skip-accepted yes n h
 
-          as-many : length (map blank (places call)) ≡ length (inOrder side side B)
-          as-many =
-              length-map (places call) blank
-              ∙ length-map (inOrder side side B) (λ z. scaled (scaleOf forward (s .qp)) z)
+      pub skipped-D : uncodedHere call < 2 ^ 57
+      skipped-D = skipped-D-below call skip-accepted scale-here yes
 
-          at-place : (n : ℕ) → n < side * side → at (laid (scan side side) vs B) (scanAt side side n) ≡ pos 0
-          at-place n h =
-              laid-on-scan side side some-side some-side vs B n
-              (signs-length (inOrder side side B) (map blank (places call)) as-many
-              ∙ length-map (scan side side) (λ p. at B p))
-              (omega (arith, early .long)) (omega (arith, early .long, full))
-              ∙ signs-at (inOrder side side B) (map blank (places call)) n as-many (omega (arith, coefficients))
-              ∙ ap (signed (at (inOrder side side B) n)) (none-at (places call) n)
-              ∙ nothing-signed (at (inOrder side side B) n)
-
-      pub skipped-answer : (quantAnswer call ≡ coded 0 0) × (quantBuffer call ≡ replicate (length B) (pos 0))
-      unfolding countOf quantised blockPlaces called zeros
-      skipped-answer =
-          let a = accepted-answer call no-fault in
-          let n : countOf call ≡ 0 = ap nonzeros magnitudes-none ∙ count-none (places call) in (
-            a .0 ∙ ap (λ (x : ℕ). coded x (priceOf call)) n ∙ ap (coded 0) price-none,
-            a .1
-                ∙ ap (λ (ms : List ℕ). laid (scan side side) (signs (scanned call) ms) B) magnitudes-none
-                ∙ ap (λ (zs : List ℤ). laid (scan side side) (signs zs zeros) B) scanned-here
-                ∙ cleared,
-          )
+      pub skipped-answer : (quantAnswer call ≡ coded 0 (uncodedHere call + ruleOf call .empty))
+          × (quantBuffer call ≡ replicate (length B) (pos 0))
+      skipped-answer = (skipped-count-and-price call skip-accepted yes, cleared)
 
     -- ---- the numbers by a scale
     module _ (g : Scale) (w : ScaleOf forward l (s .qp) g) where
@@ -368,9 +338,9 @@ module _ (B : List ℤ) (t : Costs) (a : Coding) where
         unfolding magnitudes
         written-here = rw no (rw (mode-here, rule-here p e, places-here))
 
-        price-walked : priceOf call ≡ price (ruleOf call) (magnitudes call) (places call)
+        price-is : priceOf call ≡ price (ruleOf call) (magnitudes call) (places call)
         unfolding priceOf
-        price-walked = rw no
+        price-is = refl
 
         pub coded-answer : (after : List ℤ) (r : Coded) → CodedAs (a .mode) p g side side B after r
             → (quantAnswer call ≡ coded (r .count) (r .price)) × (quantBuffer call ≡ after)
@@ -379,7 +349,7 @@ module _ (B : List ℤ) (t : Costs) (a : Coding) where
             let ok = accepted-answer call (none-at-all no-fault) in
             let n : countOf call ≡ r .count = ap nonzeros written-here ∙ sym (c .count) in
             let x : priceOf call ≡ r .price =
-            price-walked
+            price-is
             ∙ ap (λ (R : Rule). price R (magnitudes call) (places call)) (rule-here p e)
             ∙ ap (λ (ms : List ℕ). price (ruleBy p g) ms (places call)) written-here
             ∙ ap (price (ruleBy p g) (writtenIn (a .mode) (ruleBy p g) (placesBy g side side B))) places-here

@@ -60,7 +60,7 @@ pub sub-block :
     (m 1 ∷ p 0 ∷ m 1 ∷ p 0 ∷ p 1 ∷ p 1 ∷ p 0 ∷ p 0 ∷ m 1 ∷ p 0 ∷ p 0 ∷ p 0 ∷ m 3 ∷ p 0 ∷ m 1 ∷ p 0
     ∷ p 0 ∷ p 0 ∷ m 6 ∷ p 0 ∷ p 1 ∷ p 0 ∷ p 0 ∷ m 1 ∷ [])
     -- an inter slice, intra-coded: V is skipped, and luma reads cbf luma
-    × Gives (asked 2 u) 0 (0 ∷ 6 ∷ 3 ∷ 0 ∷ 57347277799 ∷ 1497848843 ∷ 0 ∷ [])
+    × Gives (asked 2 u) 0 (0 ∷ 6 ∷ 3 ∷ 0 ∷ 57347277799 ∷ 1497848843 ∷ 6588539064 ∷ [])
     (m 1 ∷ p 0 ∷ m 1 ∷ p 0 ∷ p 1 ∷ p 1 ∷ p 0 ∷ p 0 ∷ p 0 ∷ p 0 ∷ p 0 ∷ p 0 ∷ m 3 ∷ p 0 ∷ m 1 ∷ p 0
     ∷ m 1 ∷ m 1 ∷ m 6 ∷ p 0 ∷ p 0 ∷ p 0 ∷ p 0 ∷ p 0 ∷ [])
     -- refused: refusal 6 of U
@@ -107,7 +107,7 @@ pub empty :
     × Quantises (of «V» 1 15 2000 (block (m 8) (m 20) (m 32) (p 36))) 0 (0 ∷ 0 ∷ 756744596 ∷ [])
     (block (p 0) (p 0) (p 0) (p 0))
     -- the first of these in an inter slice: skipped
-    × Quantises (of Y 2 7 1500 (block (p 13) (p 1) (m 12) (p 15))) 0 (0 ∷ 0 ∷ 0 ∷ [])
+    × Quantises (of Y 2 7 1500 (block (p 13) (p 1) (m 12) (p 15))) 0 (0 ∷ 0 ∷ 193074136 ∷ [])
     (block (p 0) (p 0) (p 0) (p 0))
 unfolding quant.called quantAnswer quantBuffer costsOf
 empty = ((refl, refl, refl), (refl, refl, refl), (refl, refl, refl), (refl, refl, refl), (refl, refl, refl))

@@ -14,6 +14,11 @@ pub record PairOf (lambda : ℕ) (table : List ℕ) (row : ℕ) (r : Pair) : Typ
   pub first-small : r .first ≤ 2 ^ 48
   pub second-small : r .second ≤ 2 ^ 48
 
+-- of an empty block's flag alone
+pub record EmptyPrice (lambda : ℕ) (t : Costs) (rows : Rows) (r : ℕ) : Type 0 where
+  pub is : r ≡ lambda * entry (t .cbf) (rows .cbf) 0
+  pub small : r ≤ 2 ^ 48
+
 -- of a 0 and of the run of a level, after a nonzero level and after a 0; of a level itself: 1, 2, and each one more
 unfoldable pub pricesOf : (sign lambda : ℕ) → Costs → Rows → Prices
 unfolding entry
