@@ -1,13 +1,14 @@
 -- D of a block that the skip clears is below 2^57, whatever its side and QP: each L is below 2^b, so that 14564 errors
 -- of it come to at most 2^37. So the price that such a block reports fits, and no refusal has to be asked of it.
 -- Assumes nothing.
-use mathlib.Core.Path.{_≡_, sym}
+use mathlib.Core.Path.{_≡_}
 use mathlib.Core.Bool.{true}
 use Prim.Native.Nat.{ℕ, _+_, _-_, _*_, _/_, _^_, _≤_, _<_}
-use native.Mathlib.Nat.{mul-le-mul, mul-le-mul-left, mul-le-mul-right, mul-left-comm, mul-div-le}
+use native.Mathlib.Nat.{mul-le-mul, mul-le-mul-right, mul-left-comm, mul-div-le}
 use native.Mathlib.Omega.{arith}
 use lib.Pow.{pow-mono, pow-add}
 use lib.ListN.{length, getD}
+use Rattle.refusals.specs.Sides.{mostLog2}
 use Rattle.refusals.specs.Faults.{passed}
 use Rattle.tables.specs.Scales.{errorScale}
 use Rattle.price.specs.Level.{shiftOf, distortion, threshold}
@@ -42,10 +43,11 @@ module _ (c : Quant) (ok : quantVerdict c ≡ passed) (some : 14564 ≤ scaleHer
   facts : Accepted c
   facts = no-fault c ok
 
-  few : area c ≤ 1024
+  few : area c ≤ 2 ^ mostLog2 * 2 ^ mostLog2
   unfolding area
   few =
-      mul-le-mul (pow-mono {i = c .lw} {j = 5} (facts .wide .1)) (pow-mono {i = c .lh} {j = 5} (facts .high .1))
+      mul-le-mul (pow-mono {i = c .lw} {j = mostLog2} (facts .wide .1))
+      (pow-mono {i = c .lh} {j = mostLog2} (facts .high .1))
 
   each : (k : ℕ) → k < length (places c) → ruleOf c .dist (getD (places c) k 0) 0 ≤ 2 ^ 47 - 1
   unfolding ruleOf shiftHere log2Of threshold

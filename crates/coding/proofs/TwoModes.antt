@@ -3,7 +3,7 @@
 -- that the second mode reports is never above the walk's, a skipped block's included. So who changes the mode meets
 -- no other refusal, and pays no more.
 -- Assumes nothing.
-use mathlib.Core.Path.{_≡_, refl, sym, ap, _∙_}
+use mathlib.Core.Path.{_≡_, refl, sym, _∙_}
 use mathlib.Core.Bool.{Bool, true, false, cond}
 use mathlib.Core.List.{map}
 use Prim.Native.Nat.{ℕ, _≤_}

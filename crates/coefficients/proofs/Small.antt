@@ -10,7 +10,7 @@ use native.Mathlib.Nat.{mul-le-mul-left, suc-mul}
 use native.Mathlib.Omega.{arith}
 use lib.ListN.{length}
 use lib.IntN.{ℤ, natAbs}
-use Rattle.integers.specs.Sum.{at, over, onℕ}
+use Rattle.integers.specs.Sum.{over, onℕ}
 use Rattle.price.specs.Level.{square}
 use Rattle.coefficients.specs.Inner.Coefficients.{Within, energy}
 

@@ -1,10 +1,10 @@
 -- `coefficients::distortion::small_squares` meets its contract: three sums, none above that of the squared
 -- coefficients, and D from them.
 -- Assumes nothing.
-use mathlib.Core.Path.{_≡_, refl, sym, ap, fun-ext, _∙_}
+use mathlib.Core.Path.{_≡_, sym, ap, fun-ext, _∙_}
 use mathlib.Core.List.{List}
 use Prim.Native.Nat.{ℕ, _+_, _-_, _*_, _%_, _^_, _≤_, _<_}
-use native.Mathlib.Nat.{mul-le-mul, mul-le-mul-left}
+use native.Mathlib.Nat.{mul-le-mul}
 use native.Mathlib.Omega.{arith}
 use lib.ListN.{length, getD, drop}
 use lib.IntN.{ℤ, pos, natAbs}

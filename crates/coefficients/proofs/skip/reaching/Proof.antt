@@ -2,7 +2,7 @@
 -- and of what is left, is the block's, and the former does not reach the threshold. A block reaches it when its largest
 -- magnitude does.
 -- Assumes nothing.
-use mathlib.Core.Path.{_≡_, refl, sym, ap, _∙_}
+use mathlib.Core.Path.{_≡_, sym, ap, _∙_}
 use mathlib.Core.Logic.{⊎-elim}
 use mathlib.Core.Bool.{true≢false}
 use mathlib.Core.List.{List}
@@ -10,11 +10,11 @@ use Prim.Native.Nat.{ℕ, _≤_, _<_, _*_, _-_, max}
 use native.Mathlib.Nat.{mul-le-mul, mul-le-mul-right, max-eq-left, max-eq-right, le-max-left}
 use native.Mathlib.Omega.{arith}
 use lib.Dec.{leb}
-use lib.ListN.{length, take, drop}
+use lib.ListN.{length, drop}
 use lib.IntN.{ℤ, natAbs}
 use borrow.Author.Tests.{le-leb, lt-leb}
 use borrow.Author.Needs.{needs}
-use Rattle.integers.specs.Sum.{over, onOr, onMax}
+use Rattle.integers.specs.Sum.{over, onMax}
 use Rattle.integers.specs.Tests.{some}
 use Rattle.integers.proofs.Over.{maxima, some-over, over-part, over-end}
 use Rattle.price.specs.Level.{scaled}
