@@ -4,13 +4,16 @@
 -- Assumes nothing.
 use mathlib.Core.Path.{_≡_, sym, ap, _∙_}
 use mathlib.Core.List.{List, [], _∷_}
-use Prim.Native.Nat.{ℕ, suc, _+_, _-_, _*_, _/_, _≤_}
+use Prim.Native.Nat.{ℕ, _+_, _-_, _*_, _/_, _≤_}
 use native.Mathlib.Nat.{mul-add, add-mul, mul-assoc, mul-comm, mul-left-comm, mul-mul-mul-comm, mul-le-mul}
-use native.Mathlib.Nat.{mul-le-mul-left, suc-mul}
+use native.Mathlib.Nat.{mul-le-mul-left}
 use native.Mathlib.Omega.{arith}
-use lib.ListN.{length}
-use lib.IntN.{ℤ, natAbs}
+use lib.ListN.{length, getD}
+use lib.IntN.{ℤ, pos, natAbs}
 use Rattle.integers.specs.Sum.{over, onℕ}
+use Rattle.integers.proofs.Sums.{nats}
+use Rattle.integers.proofs.Over.{over-places}
+use Rattle.integers.proofs.Dot.{sum-below, sum-within}
 use Rattle.price.specs.Level.{square}
 use Rattle.coefficients.specs.Inner.Coefficients.{Within, energy}
 
@@ -27,36 +30,29 @@ upSquare rest z = square (roundedUp rest (natAbs z))
 abbrev pub errorSquare : (front rest : ℕ) → ℤ → ℕ
 errorSquare front rest z = square (natAbs z * front - roundedUp rest (natAbs z))
 
+-- a sum is at most another one, where its entries are
+sum-grows : (f g : ℤ → ℕ) → ((z : ℤ) → f z ≤ g z) → (l : List ℤ) → over onℕ f l ≤ over onℕ g l
+sum-grows f g h l =
+    rw (over-places nats f l (pos 0), over-places nats g l (pos 0))
+    (sum-below (length l) (λ k. f (getD l k (pos 0))) (λ k. g (getD l k (pos 0))) (λ k lt. h (getD l k (pos 0))))
+
 module _ (rest : ℕ) (few : rest ≤ 32767) where
   pub up-at-most : (a : ℕ) → roundedUp rest a ≤ a
   up-at-most a =
       let h : a * rest ≤ a * 1048576 = mul-le-mul-left a (let z : rest ≤ 1048576 = omega arith in z) in
       omega (arith, h)
 
-  -- the sums
   pub crossed-within : (l : List ℤ) → over onℕ (crossed rest) l ≤ over onℕ energy l
-  unfolding over
-  crossed-within [] = omega arith
-  crossed-within (z ∷ zs) =
-      omega (arith, mul-le-mul-left (natAbs z) (up-at-most (natAbs z)), crossed-within zs)
+  crossed-within = sum-grows (crossed rest) energy (λ z. mul-le-mul-left (natAbs z) (up-at-most (natAbs z)))
 
   pub up-within : (l : List ℤ) → over onℕ (upSquare rest) l ≤ over onℕ energy l
-  unfolding over
-  up-within [] = omega arith
-  up-within (z ∷ zs) =
-      let h = up-at-most (natAbs z) in omega (arith, mul-le-mul h h, up-within zs)
+  up-within = sum-grows (upSquare rest) energy (λ z. mul-le-mul (up-at-most (natAbs z)) (up-at-most (natAbs z)))
 
 -- the squared coefficients, where none is above t
 pub energy-at-most : (l : List ℤ) (t : ℕ) → Within l t → over onℕ energy l ≤ length l * (t * t)
-unfolding over
-energy-at-most [] t h = omega arith
-energy-at-most (z ∷ zs) t h =
-    omega (
-      arith,
-      mul-le-mul (h 0) (h 0),
-      energy-at-most zs t (λ k. h (suc k)),
-      suc-mul (length zs) (t * t),
-    )
+energy-at-most l t h =
+    rw (over-places nats energy l (pos 0))
+    (sum-within (length l) (t * t) (λ k. energy (getD l k (pos 0))) (λ k lt. mul-le-mul (h k) (h k)))
 
 -- one place: u and y are |c|·front
 square-of-sum : (u y : ℕ) → square (u + y) ≡ square u + (u * y + u * y) + square y

@@ -2,7 +2,7 @@
 -- more flag, what is left of D stays in the total, and the best price only falls. The price written is at most the
 -- empty block's, and the squared error at most the price. D is at most what its largest place has, at every place.
 -- Assumes nothing.
-use mathlib.Core.Path.{_≡_, refl}
+use mathlib.Core.Path.{_≡_, refl, ap}
 use mathlib.Core.Logic.{inl}
 use mathlib.Core.Bool.{Bool, true, false, cond, not, _&&_}
 use mathlib.Core.List.{List, [], _∷_}
@@ -12,6 +12,10 @@ use native.Mathlib.Nat.{suc-mul}
 use lib.Dec.{ltb}
 use lib.ListN.{length, getD, take, drop}
 use borrow.Author.Tests.{ltb-true}
+use Rattle.integers.specs.Sum.{over, onℕ}
+use Rattle.integers.proofs.Sums.{nats}
+use Rattle.integers.proofs.Over.{over-places}
+use Rattle.integers.proofs.Dot.{sum-within}
 use Rattle.price.specs.Rule.{Rule, isZero, cost}
 use Rattle.price.specs.Price.{uncoded, squaredError, inFront, size, allZero, price}
 use Rattle.price.specs.Walk.{chosen, walked, written}
@@ -72,18 +76,17 @@ walk-best-falls r n w (p ∷ ps) = omega (arith, step-best-falls r n w p, walk-b
 pub written-price-at-most-empty : (r : Rule) (ps : List ℕ) → price r (written r ps) ps ≤ uncoded r ps + r .empty
 written-price-at-most-empty r ps = omega (arith, written-no-dearer r ps 0 tt, price-empty r (walked r false ps) ps)
 
--- D, where no place has more than x of it
+-- D as a sum over the places, and its bound where no place has more than x of it
+pub uncoded-over : (r : Rule) (ps : List ℕ) → uncoded r ps ≡ over onℕ (λ p. r .dist p 0) ps
+unfolding uncoded over
+uncoded-over r [] = refl
+uncoded-over r (p ∷ ps) = ap (λ (n : ℕ). r .dist p 0 + n) (uncoded-over r ps)
+
 pub uncoded-at-most : (r : Rule) (x : ℕ) (ps : List ℕ) → ((k : ℕ) → k < length ps → r .dist (getD ps k 0) 0 ≤ x)
     → uncoded r ps ≤ length ps * x
-unfolding uncoded
-uncoded-at-most r x [] h = omega arith
-uncoded-at-most r x (p ∷ ps) h =
-    omega (
-      arith,
-      h 0 (omega arith),
-      uncoded-at-most r x ps (λ k l. h (suc k) (omega arith)),
-      suc-mul (length ps) x,
-    )
+uncoded-at-most r x ps h =
+    rw (uncoded-over r ps, over-places nats (λ p. r .dist p 0) ps 0)
+    (sum-within (length ps) x (λ k. r .dist (getD ps k 0) 0) h)
 
 -- levels that are all 0 have D for their error
 error-uncoded : (r : Rule) (ls ps : List ℕ) → length ls ≡ length ps → size ls ≡ 0 → squaredError r ls ps ≡ uncoded r ps

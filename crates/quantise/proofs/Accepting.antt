@@ -55,7 +55,8 @@ module _ (B : List ℤ) (top : ℕ) (e : top ≡ over onMax natAbs B) (few : top
         price = omega arith;
       }
 
--- the coefficients of a skipped block: L below 2^b leaves the square of all at most 2^31, whatever the side and QP
+-- the coefficients of a skipped block: L below 2^b leaves the side times |c| at most 2^29/14564, whatever the side and
+-- QP, so that the squares of all come to at most 2^31
 pub skipped-energy : (l qp q top : ℕ) → l ≤ 19 → qp ≤ 63 → 14564 ≤ q → top * q ≤ 2 ^ shiftOf l qp
     → 2 ^ l * 2 ^ l * (top * top) ≤ 2 ^ 31
 unfolding shiftOf

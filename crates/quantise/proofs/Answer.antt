@@ -35,6 +35,7 @@ use Rattle.coding.specs.declared.Coded.{Coded}
 use Rattle.scaling.specs.declared.scale.Scale.{Scale}
 use Rattle.weights.specs.declared.prices.Prices.{Prices}
 use Rattle.price.specs.Rows.{rowsOf}
+use Rattle.price.proofs.Bounds.{uncoded-over}
 use Rattle.coding.specs.declared.Coding.{Coding}
 use Rattle.coding.specs.Block.{Quant, called, writtenIn, log2Of, area, scaleHere, shiftHere, lambdaHere}
 use Rattle.coding.specs.Block.{rowsHere, ruleOf, blockPlaces, scanned, places, isSkipped, largest, magnitudes, signs}
@@ -77,11 +78,6 @@ largest-over : (m : ℕ → ℕ) (ps : List ℕ) → largest m ps ≡ over onMax
 unfolding largest over
 largest-over m [] = refl
 largest-over m (p ∷ ps) = ap (max (m p)) (largest-over m ps)
-
-uncoded-over : (r : Rule) (ps : List ℕ) → uncoded r ps ≡ over onℕ (λ p. r .dist p 0) ps
-unfolding uncoded over
-uncoded-over r [] = refl
-uncoded-over r (p ∷ ps) = ap (λ (n : ℕ). r .dist p 0 + n) (uncoded-over r ps)
 
 -- a rule by its numbers
 made : ℕ → ℕ → (Bool → ℕ → ℕ) → Prices → Rule
@@ -241,7 +237,7 @@ module _ (B : List ℤ) (t : Costs) (a : Coding) where
       unfolding levelFault priceFault distortionFault
       no-fault = none-at-all (but (sample-here false none) (but (rw yes) (but (rw yes) (but (rw yes) end))))
 
-      pub skip-accepted : quantVerdict call ≡ passed
+      skip-accepted : quantVerdict call ≡ passed
       unfolding quantVerdict
       skip-accepted = accepted-without-a-fault call quantFaults no-fault
 

@@ -184,18 +184,18 @@ none-lowest c =
     (omega (arith, limit .ensures .2, g .ensures .q, scale-range (s .args .coding .settings .qp)))
     (s .args .block .now) (sym (r .reaching .ensures .walked) ∙ not-true _ (c .if1 .taken))
 
+-- its coefficients are small
+scale-low : (c : tie.After-reaching) → 14564 ≤ scale-at c .scale-of .result .q
+scale-low c = omega (arith, scale-at c .scale-of .ensures .q, scale-range (start c .args .coding .settings .qp))
+
 skip-few : (c : tie.Then1) → c .before .before .reaching .result .top ≤ 32767
 skip-few c =
     let r = c .before .before in
-    let limit = threshold-at r .skip-threshold in
-    let g = scale-at r .scale-of in
-    let low : 14564 ≤ g .result .q =
-    omega (arith, g .ensures .q, scale-range (start r .args .coding .settings .qp)) in
     omega (
       arith,
       r .reaching .ensures .below (not-true _ (c .if1 .taken)),
-      limit .ensures .2,
-      mul-le-mul-left (r .reaching .result .top) low,
+      threshold-at r .skip-threshold .ensures .2,
+      mul-le-mul-left (r .reaching .result .top) (scale-low r),
     )
 
 skip-energy : (c : tie.Then1) → over onℕ energy (start (c .before .before) .args .block .now) ≤ 2 ^ 31
@@ -208,14 +208,13 @@ skip-energy c =
     let limit = threshold-at r .skip-threshold in
     let g = scale-at r .scale-of in
     let no = not-true _ (c .if1 .taken) in
-    let low : 14564 ≤ g .result .q = omega (arith, g .ensures .q, scale-range (k .settings .qp)) in
     let below : top * g .result .q ≤ 2 ^ shiftOf (k .log2) (k .settings .qp) =
     omega (arith, r .reaching .ensures .below no, limit .ensures .0) in
     omega (
       arith,
       energy-at-most B top (λ n. omega (arith, within-largest B n, r .reaching .ensures .top no)),
       skipped-energy (k .log2) (k .settings .qp) (g .result .q) top (omega (arith, start r .pre .high))
-          (start r .pre .qp) low below,
+          (start r .pre .qp) (scale-low r) below,
       ap (λ (n : ℕ). n * (top * top)) (start r .pre .long),
     )
 

@@ -88,28 +88,27 @@ module _ (c : tie.After-absolute Inv-loop μ-loop) where
   lt : head c .loop .i < length B
   lt = c .before .before .loop-test .taken
 
+  -- a sum of what h makes of the magnitudes
+  one-more : (h : ℕ → ℕ) (sum : ℕ)
+      → sum + over onℕ (λ z. h (natAbs z)) (drop (head c .loop .i) B) ≡ over onℕ (λ z. h (natAbs z)) B
+      → sum + h (magnitude c) + over onℕ (λ z. h (natAbs z)) (drop (head c .loop .i + 1) B)
+      ≡ over onℕ (λ z. h (natAbs z)) B
+  one-more h sum e =
+      ap (λ (n : ℕ). sum + h n + over onℕ (λ z. h (natAbs z)) (drop (head c .loop .i + 1) B)) (magnitude-is c)
+      ∙ over-next nats (λ z. h (natAbs z)) B (head c .loop .i) (pos 0) sum lt
+      ∙ e
+
   energy-next : head c .loop .aa + magnitude c * magnitude c + over onℕ energy (drop (head c .loop .i + 1) B)
       ≡ over onℕ energy B
-  energy-next =
-      ap (λ (n : ℕ). head c .loop .aa + n * n + over onℕ energy (drop (head c .loop .i + 1) B)) (magnitude-is c)
-      ∙ over-next nats energy B (head c .loop .i) (pos 0) (head c .loop .aa) lt
-      ∙ head c .loop .inv .1
+  energy-next = one-more square (head c .loop .aa) (head c .loop .inv .1)
 
   crossed-next : head c .loop .ay + magnitude c * roundedUp r (magnitude c)
       + over onℕ (crossed r) (drop (head c .loop .i + 1) B) ≡ over onℕ (crossed r) B
-  crossed-next =
-      ap (λ (n : ℕ). head c .loop .ay + n * roundedUp r n + over onℕ (crossed r) (drop (head c .loop .i + 1) B))
-      (magnitude-is c)
-      ∙ over-next nats (crossed r) B (head c .loop .i) (pos 0) (head c .loop .ay) lt
-      ∙ head c .loop .inv .2
+  crossed-next = one-more (λ a. a * roundedUp r a) (head c .loop .ay) (head c .loop .inv .2)
 
   up-next : head c .loop .yy + square (roundedUp r (magnitude c))
       + over onℕ (upSquare r) (drop (head c .loop .i + 1) B) ≡ over onℕ (upSquare r) B
-  up-next =
-      ap (λ (n : ℕ). head c .loop .yy + square (roundedUp r n) + over onℕ (upSquare r) (drop (head c .loop .i + 1) B))
-      (magnitude-is c)
-      ∙ over-next nats (upSquare r) B (head c .loop .i) (pos 0) (head c .loop .yy) lt
-      ∙ head c .loop .inv .3
+  up-next = one-more (λ a. square (roundedUp r a)) (head c .loop .yy) (head c .loop .inv .3)
 
   -- none is above 2^31
   crossed-small : over onℕ (crossed r) B ≤ 2 ^ 31
@@ -129,20 +128,18 @@ module _ (c : tie.After-loop Inv-loop μ-loop) where
   abbrev front : ℕ
   front = done .args .g .front
 
+  whole : (f : ℤ → ℕ) (sum : ℕ) → sum + over onℕ f (drop (c .before .loop .i) all) ≡ over onℕ f all
+      → sum ≡ over onℕ f all
+  whole f sum e = sym (over-end nats f all (c .before .loop .i) sum (c .loop-test .left)) ∙ e
+
   energy-is : c .before .loop .aa ≡ over onℕ energy all
-  energy-is =
-      sym (over-end nats energy all (c .before .loop .i) (c .before .loop .aa) (c .loop-test .left))
-      ∙ c .before .loop .inv .1
+  energy-is = whole energy (c .before .loop .aa) (c .before .loop .inv .1)
 
   crossed-is : c .before .loop .ay ≡ over onℕ (crossed (restOf done)) all
-  crossed-is =
-      sym (over-end nats (crossed (restOf done)) all (c .before .loop .i) (c .before .loop .ay) (c .loop-test .left))
-      ∙ c .before .loop .inv .2
+  crossed-is = whole (crossed (restOf done)) (c .before .loop .ay) (c .before .loop .inv .2)
 
   up-is : c .before .loop .yy ≡ over onℕ (upSquare (restOf done)) all
-  up-is =
-      sym (over-end nats (upSquare (restOf done)) all (c .before .loop .i) (c .before .loop .yy) (c .loop-test .left))
-      ∙ c .before .loop .inv .3
+  up-is = whole (upSquare (restOf done)) (c .before .loop .yy) (c .before .loop .inv .3)
 
   energy-few : c .before .loop .aa ≤ 2 ^ 31
   energy-few = omega (arith, energy-is, done .pre .2)
