@@ -80,9 +80,12 @@ fn fits(archive: &[u8]) -> Result<(), String> {
     if apple || system == "windows" || system == "uefi" {
         return Err(format!("has ELF objects, which cannot be linked for {system}"));
     }
-    let version = b"galemosu_version";
-    if !archive.windows(version.len()).any(|word| word == version) {
+    let has = |name: &[u8]| archive.windows(name.len()).any(|word| word == name);
+    if !has(b"galemosu_version") {
         return Err("has no galemosu_version: it is of 0.1.0, whose calls take other arguments".to_string());
+    }
+    if !has(b"galemosu_inverse") {
+        return Err("has no galemosu_inverse: it is of a version before 0.4.0, without the way back".to_string());
     }
     Ok(())
 }

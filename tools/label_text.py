@@ -1,5 +1,6 @@
 """label_text.py [QP [MILLIONTHS]] < crates/label/stdin > crates/label/stdout: what the program `label` must write when
-it is called with the words of crates/label/args, worked out by tools/paper.py.
+it is called with the words of crates/label/args, worked out by tools/paper.py and, for what the viewer does, by the two
+formulas of ticket 6 as they stand there: each level by itself, and the double sum over all coefficients.
 
 The program's own answer is no part of it.
 """
@@ -8,19 +9,72 @@ from decimal import Decimal, getcontext, ROUND_HALF_UP
 from paper import Paper, Costs, Y
 
 getcontext().prec = 60
-SIDE, LOG2 = 8, 3
+SIDE, LOG2, GUESS, WHITE = 8, 3, 700, 1023
 COSTS = Costs(
     [21000, 48000, 37000, 26000, 21000, 48000, 37000, 26000]
     + [18000, 52000, 24000, 40000, 18000, 52000, 24000, 40000]
     + [12000, 70000, 12000, 70000]
     + [60000, 14000, 60000, 14000, 60000, 14000, 60000, 14000])
-RESIDUALS = {"#": -600, "+": -250, ".": 120}
+BACK = [40, 45, 51, 57, 64, 72]
+GREYS = "@%#*+=-:. "
+ACROSS = 56
 LEGEND = """QP is the slice's plus 12; lambda is what a bit may cost, in squared error of samples of 8 bits.
-In the picture # is %d, + is %d, . is %d: the camera's sample less the guess, of 10 bits.
+Samples are of 10 bits, 0 (black) to 1023 (white), scaled from the picture's 0 to %d. Coded is the sample
+less a guess, 700 everywhere. Left is what the camera saw, right what the viewer shows of the levels.
+Where the picture ends inside a block its last column and row are repeated, and not compared.
 Under a block stand its levels by rows, one for each pattern: the coefficient by its step, to the
 nearest (kept), one less (v: lowered), or 0 where that is not 0 (x: dropped). Others never come.
-A price is squared error plus lambda times bits; in brackets as the call reports it, times 2^30.""" % tuple(
-    RESIDUALS.values())
+A price is squared error plus lambda times bits; in brackets as the call reports it, times 2^30."""
+
+
+# ---- the viewer's half, by ticket 6
+def clip(value, least=-32768, most=32767):
+    return min(max(value, least), most)
+
+
+def scaled_back(level, qp):
+    return clip((level * BACK[qp % 6] * 2 ** (qp // 6) + 2 ** LOG2) >> (1 + LOG2))
+
+
+def restored(matrix, coefficients, y, x):
+    total = sum(
+        matrix[v][y] * matrix[u][x] * coefficients[v * SIDE + u] for v in range(SIDE) for u in range(SIDE))
+    return clip((total + 2 ** 16) >> 17)
+
+
+# ---- the picture
+class Picture:
+    """A PGM: its width, height and maxval, and its samples of 10 bits by rows."""
+
+    def __init__(self, data):
+        self.data, self.at = data, 2
+        if data[:2] not in (b"P2", b"P5"):
+            sys.exit("label_text: no PGM")
+        self.width, self.height, self.most = self.number(), self.number(), self.number()
+        count = self.width * self.height
+        if data[:2] == b"P2":
+            samples = [self.number() for _ in range(count)]
+        else:
+            size = 1 if self.most < 256 else 2
+            raw = data[self.at + 1:self.at + 1 + size * count]
+            samples = [int.from_bytes(raw[k:k + size], "big") for k in range(0, len(raw), size)]
+        self.samples = [(v * WHITE + self.most // 2) // self.most for v in samples]
+
+    def number(self):
+        """The next number, behind blanks and comments."""
+        while self.data[self.at:self.at + 1].isspace() or self.data[self.at:self.at + 1] == b"#":
+            if self.data[self.at:self.at + 1] == b"#":
+                while self.data[self.at] not in b"\r\n":
+                    self.at += 1
+            self.at += 1
+        start = self.at
+        while self.data[self.at:self.at + 1].isdigit():
+            self.at += 1
+        return int(self.data[start:self.at])
+
+    def sample(self, y, x):
+        """The sample there, or the nearest one."""
+        return self.samples[min(y, self.height - 1) * self.width + min(x, self.width - 1)]
 
 
 def usual(qp):
@@ -47,38 +101,103 @@ def tally(counts):
         counts[k] for k in ("kept", "lowered", "dropped", "other"))
 
 
-def main():
-    qp = int(sys.argv[1]) if len(sys.argv) > 1 else 34
-    millionths = int(sys.argv[2]) if len(sys.argv) > 2 else usual(qp)
-    paper = Paper()
-    rows = sys.stdin.read().split("\n")[:2 * SIDE]
-    print("A label's digit in four blocks of 8 by 8, coded at QP %d, lambda %d.%06d." % (
-        qp, millionths // 10 ** 6, millionths % 10 ** 6))
-    print(LEGEND)
-    whole = {}
-    for at in range(4):
-        top, left = at // 2 * SIDE, at % 2 * SIDE
-        picture = [row[left:left + SIDE] for row in rows[top:top + SIDE]]
-        coefficients = paper.coefficients([RESIDUALS[x] for row in picture for x in row], LOG2, LOG2)
-        count, price, levels = paper.coded(coefficients, LOG2, Y, qp, millionths / 1e6, True, True, COSTS)
-        print("\nblock %d" % (at + 1))
-        print("\n".join(picture))
+def row_of(samples):
+    return "".join("%4d " % v for v in samples)
+
+
+class Page:
+    """The page of a picture at a QP and lambda, and what it shows."""
+
+    def __init__(self, picture, qp, millionths):
+        self.picture, self.qp, self.millionths = picture, qp, millionths
+        self.paper = Paper()
+        self.shown = [None] * len(picture.samples)
+        self.counts = {}
+
+    def levels(self, coefficients, levels):
+        """The levels by rows with their marks, and how many became what."""
         counts = dict.fromkeys(("kept", "lowered", "dropped", "nothing to code", "other"), 0)
         for y in range(SIDE):
             line = ""
-            for x in range(SIDE):
-                place = y * SIDE + x
-                m = paper.m(paper.scaled(coefficients[place], qp), paper.b(LOG2, qp))
+            for place in range(y * SIDE, (y + 1) * SIDE):
+                m = self.paper.m(self.paper.scaled(coefficients[place], self.qp), self.paper.b(LOG2, self.qp))
                 mark, kind = fate(m, levels[place])
                 counts[kind] += 1
                 line += "%6d%s" % (levels[place], mark)
             print(line)
+        return counts
+
+    def difference(self, top, left, seen, view):
+        """Keeps what is shown of a block, and gives the largest difference of a sample that the picture has."""
+        apart = 0
+        for i, (a, b) in enumerate(zip(seen, view)):
+            y, x = top + i // SIDE, left + i % SIDE
+            if y < self.picture.height and x < self.picture.width:
+                self.shown[y * self.picture.width + x] = b
+                apart = max(apart, abs(a - b))
+        return apart
+
+    def block(self, at, top, left):
+        paper, qp = self.paper, self.qp
+        seen = [self.picture.sample(top + y, left + x) for y in range(SIDE) for x in range(SIDE)]
+        coefficients = paper.coefficients([v - GUESS for v in seen], LOG2, LOG2)
+        count, price, levels = paper.coded(coefficients, LOG2, Y, qp, self.millionths / 1e6, True, True, COSTS)
+        back = [scaled_back(level, qp) for level in levels]
+        matrix = paper.matrix(LOG2)
+        view = [
+            clip(GUESS + restored(matrix, back, y, x), 0, WHITE) for y in range(SIDE) for x in range(SIDE)]
+        print("\nblock %d: camera                               shown" % (at + 1))
+        for k in range(0, SIDE * SIDE, SIDE):
+            print(row_of(seen[k:k + SIDE]) + "    " + row_of(view[k:k + SIDE]))
+        print("largest difference of a sample %d" % self.difference(top, left, seen, view))
+        counts = self.levels(coefficients, levels)
         hundredths = price * 100 >> 30
         print("%s; %d levels, price %d.%02d (%d)" % (
             tally(counts), count, hundredths // 100, hundredths % 100, price))
         for key, n in counts.items():
-            whole[key] = whole.get(key, 0) + n
-    print("\nin all: " + tally(whole))
+            self.counts[key] = self.counts.get(key, 0) + n
+
+    def whole(self):
+        picture, width = self.picture, self.picture.width
+        step = -(-width // ACROSS)
+        print("\nthe whole as the camera saw it, and as it is shown; dark is @; a character stands for %d by %d:" % (
+            step, step))
+        for y in range(0, picture.height, step):
+            row = slice(y * width, (y + 1) * width, step)
+            left, right = ("".join(GREYS[v // 103] for v in of[row]) for of in (picture.samples, self.shown))
+            print(left.ljust(width // step + 5) + right)
+        apart = [abs(a - b) for a, b in zip(picture.samples, self.shown)]
+        most = max(apart)
+        at = apart.index(most)
+        print("largest difference of a sample in the whole %d, in row %d, column %d, where the camera saw %d; "
+              "both count from 0." % (most, at // width, at % width, picture.samples[at]))
+        print("It is what came of this picture: nothing is proved of how large it can be.")
+
+    def pgm(self):
+        picture, width = self.picture, self.picture.width
+        print("\nthe picture shown, as a PGM:\nP2\n%d %d\n%d" % (width, picture.height, WHITE))
+        for y in range(picture.height):
+            for x in range(0, width, 14):
+                print(row_of(self.shown[y * width + x:y * width + min(x + 14, width)])[:-1])
+
+    def write(self):
+        picture = self.picture
+        print("A picture of %d by %d in blocks of 8 by 8, coded at QP %d, lambda %d.%06d, "
+              "and shown as the viewer shows it." % (
+                  picture.width, picture.height, self.qp, self.millionths // 10 ** 6, self.millionths % 10 ** 6))
+        print(LEGEND % picture.most)
+        corners = [(y, x) for y in range(0, picture.height, SIDE) for x in range(0, picture.width, SIDE)]
+        for at, (top, left) in enumerate(corners):
+            self.block(at, top, left)
+        print("\nin all: " + tally(self.counts))
+        self.whole()
+        self.pgm()
+
+
+def main():
+    qp = int(sys.argv[1]) if len(sys.argv) > 1 else 34
+    millionths = int(sys.argv[2]) if len(sys.argv) > 2 else usual(qp)
+    Page(Picture(sys.stdin.buffer.read()), qp, millionths).write()
 
 
 main()

@@ -1,6 +1,6 @@
-"""Document 01, document 02's second mode (its ticket 9) and the line protocol in Python's whole numbers, sentence by
-sentence. It shares nothing with the crates, and stands in for nothing of theirs: recorded answers and the label's
-expected text are held against it.
+"""Document 01, document 02's viewer's half and second mode (its tickets 6 and 9) and the line protocol in Python's
+whole numbers, sentence by sentence. It shares nothing with the crates, and stands in for nothing of theirs: recorded
+answers and the label's expected text are held against it.
 
     python3 tools/paper.py < requests     an answer line for each request line
 
@@ -10,6 +10,15 @@ Each rule of the paper is a method of its own, so that a wrong port is a class t
 import functools, math, operator, re, struct, sys
 
 Y, U, V = 0, 1, 2
+
+
+@functools.cache
+def products_back(th, tw, coefficients):
+    """The inverse transform's sums, by rows: over v, u of T_h[v][y] · T_w[u][x] · coefficient(v, u). A coefficient of 0
+    adds nothing and is passed over."""
+    w, h = len(tw), len(th)
+    terms = [(v, u, coefficients[v * w + u]) for v in range(h) for u in range(w) if coefficients[v * w + u]]
+    return [sum(th[v][y] * tw[u][x] * c for v, u, c in terms) for y in range(h) for x in range(w)]
 
 
 class Refused(Exception):
@@ -177,6 +186,30 @@ class Paper:
         rows = [residuals[i:i + w] for i in range(0, len(residuals), w)]
         staged = [[self.first_stage(product(t, row), lw) for row in rows] for t in self.matrix(lw)]
         return [self.shift_right(product(t, column), bits) for t in self.matrix(lh) for column in staged]
+
+    # ---- the viewer's half: levels scaled back, and the inverse transform
+    BACK = [40, 45, 51, 57, 64, 72]
+
+    def s(self, qp):
+        return self.BACK[qp % 6]
+
+    def clip(self, value):
+        """To 16 bits."""
+        return max(-32768, min(32767, value))
+
+    def coefficient_back(self, level, log2, qp):
+        return self.clip((level * self.s(qp) * 2 ** (qp // 6) + 2 ** log2) >> (1 + log2))
+
+    def coefficients_back(self, levels, log2, qp):
+        return [self.coefficient_back(level, log2, qp) for level in levels]
+
+    def residual(self, value):
+        """Of a sum: one rounding."""
+        return self.clip((value + 2 ** 16) >> 17)
+
+    def residuals(self, coefficients, lw, lh):
+        th, tw = (tuple(map(tuple, self.matrix(log2))) for log2 in (lh, lw))
+        return [self.residual(value) for value in products_back(th, tw, tuple(coefficients))]
 
     # ---- quantiser: scales, skip, scan
     SCALES = [26214, 23302, 20560, 18396, 16384, 14564]
@@ -428,6 +461,23 @@ class Paper:
         ])
         return self.coefficients(buffer[:n], lw, lh) + buffer[n:]
 
+    def scale_back(self, buffer, log2, qp):
+        n = self.places(log2, log2)
+        self.first_fault([
+            (1, 0, lambda: self.side_fault(log2, self.LEAST_SIDE)),
+            (2, 0, lambda: self.qp_fault(qp)),
+            (5, 0, lambda: len(buffer) < n),
+        ])
+        return self.coefficients_back(buffer[:n], log2, qp) + buffer[n:]
+
+    def inverse(self, buffer, lw, lh):
+        n = self.places(lw, lh)
+        self.first_fault([
+            (1, 0, lambda: self.side_fault(lw, self.LEAST_SIDE) or self.side_fault(lh, self.LEAST_SIDE)),
+            (5, 0, lambda: len(buffer) < n),
+        ])
+        return self.residuals(buffer[:n], lw, lh) + buffer[n:]
+
     def quantise(self, buffer, log2, component, qp, d, intra_slice, intra_coded, costs, least=False):
         """Count, price and buffer; least: in the second mode."""
         n = self.places(log2, log2)
@@ -539,6 +589,12 @@ class Paper:
             answers, after = self.sub_block(words.samples(), log2, run, qp, d, self.intra_slice(flags),
                                             self.intra_coded(flags), costs, self.second_mode(flags, verb))
             return b"accepted %s :" % b" ".join(b"%d %d" % a for a in answers), after
+        if verb == b"scaleback":
+            log2, qp = words.log2(), words.u32()
+            return b"accepted :", self.scale_back(words.samples(), log2, qp)
+        if verb == b"inverse":
+            lw, lh = words.log2(), words.log2()
+            return b"accepted :", self.inverse(words.samples(), lw, lh)
         raise Malformed
 
 

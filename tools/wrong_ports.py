@@ -2,15 +2,15 @@
 
 A wrong port is tools/paper.py with one rule changed. Each answers the stored requests of `tq`; printed are how many
 answers it gets wrong (counted to 10, with --all to the end) of those made by hand and of those drawn by chance, and the
-request that catches it first. A port that is wrong in the second mode alone is asked requests of that mode alone. With
-WORDS, only ports whose names have one of them. Status 1 if a wrong port is caught by neither, or if the paper itself,
-or a port that can't differ, gets an answer wrong.
+request that catches it first. A port that is wrong in the second mode alone, or in the viewer's half alone, is asked
+requests of that mode or half alone. With WORDS, only ports whose names have one of them. Status 1 if a wrong port is
+caught by neither, or if the paper itself, or a port that can't differ, gets an answer wrong.
 """
 import copy, fractions, functools, itertools, math, multiprocessing, os, struct, sys
-from paper import Block, Costs, Malformed, Paper, Refused, U, V, Words, Y
+from paper import Block, Costs, Malformed, Paper, Refused, U, V, Words, Y, products_back
 import vectors
 from vectors import by_hand
-from vectors.lines import CODED, FLAGS_AT, LEAST, SLICE, is_least
+from vectors.lines import CODED, FLAGS_AT, LEAST, SLICE, is_least, is_viewers
 
 HERE = os.path.dirname(os.path.dirname(os.path.abspath(__file__)))
 PORTS, EQUAL = [], []
@@ -830,6 +830,273 @@ for verb in FLAGS_AT:
     second("bit 2 of FLAGS not read by %s" % verb.decode(), second_mode=lambda s, flags, verb, of=verb: verb != of)
     second("malformed for %s" % verb.decode(), second_mode=not_for(verb))
 
+# ---- the viewer's half: these differ from the paper there alone, and are asked its requests alone
+def viewers(name, **rules):
+    PORTS.append(type("viewer's half: " + name, (Paper,), {**rules, "asked": staticmethod(is_viewers)}))
+
+
+def back_by(scaled):
+    """Scaling back, by a level, its log2 side and a QP, clipped."""
+    return lambda paper, level, log2, qp: paper.clip(scaled(paper, level, log2, qp))
+
+
+def factor(paper, qp):
+    return paper.s(qp) * 2 ** (qp // 6)
+
+
+def floored_twice(paper, level, log2, qp):
+    """2^(QP/6) and 2^(1+l) cancelled first, what is left over dropped."""
+    up = qp // 6 - 1 - log2
+    return level * paper.s(qp) << up if up >= 0 else level * paper.s(qp) >> -up
+
+
+def sums(first, tw, th, coefficients):
+    """The sums of the inverse in two stages, `first` of each of the first stage, which goes along the rows."""
+    w = len(tw)
+    rows = [coefficients[i:i + w] for i in range(0, len(coefficients), w)]
+    staged = [[first(sum(t[x] * c for t, c in zip(tw, row))) for x in range(w)] for row in rows]
+    return [sum(t[y] * line[x] for t, line in zip(th, staged)) for y in range(len(th)) for x in range(w)]
+
+
+def in_stages(first, last=Paper.residual, columns=False):
+    """The inverse in two stages; columns: along the columns first."""
+    def residuals(paper, coefficients, lw, lh):
+        if columns:
+            w, h = 1 << lw, 1 << lh
+            by_columns = [coefficients[v * w + u] for u in range(w) for v in range(h)]
+            out = in_stages(first, last)(paper, by_columns, lh, lw)
+            return [out[x * h + y] for y in range(h) for x in range(w)]
+        return [last(paper, v) for v in sums(first, paper.matrix(lw), paper.matrix(lh), coefficients)]
+    return residuals
+
+
+def rounded_to(bits):
+    """After the first stage, so many bits rounded away."""
+    return lambda v: (v + (1 << (bits - 1))) >> bits
+
+
+def kept_wide(bits):
+    """The same, and the sum as large as it was."""
+    return lambda v: rounded_to(bits)(v) << bits
+
+
+def with_matrices(change):
+    """The inverse by other matrices: those of the height and the width, T[frequency][place], changed."""
+    def residuals(paper, coefficients, lw, lh):
+        th, tw = (tuple(map(tuple, change(paper.matrix(log2)))) for log2 in (lh, lw))
+        return [paper.residual(v) for v in products_back(th, tw, tuple(coefficients))]
+    return residuals
+
+
+def turned(matrix):
+    return list(zip(*matrix))
+
+
+def one_more(side, k, n):
+    """One entry of the matrix of a side, in the inverse alone."""
+    def change(matrix):
+        return [[e + (len(matrix) == side and (i, j) == (k, n)) for j, e in enumerate(row)]
+                for i, row in enumerate(matrix)]
+    return {"residuals": with_matrices(change)}
+
+
+def in_front(n_of):
+    """As many coefficients as n_of says, the others as if they were 0."""
+    def residuals(paper, coefficients, lw, lh):
+        n = n_of(lw, lh)
+        return Paper.residuals(paper, coefficients[:n] + [0] * (len(coefficients) - n), lw, lh)
+    return {"residuals": residuals}
+
+
+def by_columns_back(paper, coefficients, lw, lh):
+    """The residuals stored by columns."""
+    out, w = Paper.residuals(paper, coefficients, lw, lh), 1 << lw
+    return [r for x in range(w) for r in out[x::w]]
+
+
+def refused_samples(fault):
+    """Both calls with a refusal 6."""
+    def call(name, block):
+        def refusing(paper, buffer, *settings):
+            after = getattr(Paper, name)(paper, buffer, *settings)
+            if fault(buffer[:block(paper, *settings)]):
+                raise Refused(6, 0)
+            return after
+        return refusing
+    return {"scale_back": call("scale_back", lambda paper, log2, qp: paper.places(log2, log2)),
+            "inverse": call("inverse", lambda paper, lw, lh: paper.places(lw, lh))}
+
+
+def inverse_tested(side):
+    """1 asked of one number alone."""
+    def inverse(paper, buffer, lw, lh):
+        n = paper.places(lw, lh)
+        paper.first_fault([(1, 0, lambda: paper.side_fault(side(lw, lh), 1)), (5, 0, lambda: len(buffer) < n)])
+        return paper.residuals(buffer[:n], lw, lh) + buffer[n:]
+    return inverse
+
+
+def written_when_refused(paper, buffer, log2, qp):
+    """What there is of the block is scaled back, and then refused with 5."""
+    try:
+        return Paper.scale_back(paper, buffer, log2, qp)
+    except Refused as refused:
+        if refused.number == 5:
+            buffer[:] = paper.coefficients_back(buffer, log2, qp)
+        raise
+
+
+viewers("2^l left out of scaling back", coefficient_back=back_by(lambda s, v, l, qp: v * factor(s, qp) >> (1 + l)))
+viewers("2^(1+l) added", coefficient_back=back_by(lambda s, v, l, qp: (v * factor(s, qp) + (2 << l)) >> (1 + l)))
+viewers("2^l - 1 added", coefficient_back=back_by(lambda s, v, l, qp: (v * factor(s, qp) + (1 << l) - 1) >> (1 + l)))
+viewers("scaling back shifted by l", coefficient_back=back_by(lambda s, v, l, qp: (v * factor(s, qp) + (1 << l)) >> l))
+viewers("scaling back shifted by l, and its half", coefficient_back=back_by(
+    lambda s, v, l, qp: (v * factor(s, qp) + (1 << (l - 1))) >> l))
+viewers("scaling back shifted by 2+l", coefficient_back=back_by(
+    lambda s, v, l, qp: (v * factor(s, qp) + (2 << l)) >> (2 + l)))
+viewers("scaling back shifted by 6", coefficient_back=back_by(lambda s, v, l, qp: (v * factor(s, qp) + 32) >> 6))
+viewers("scaling back rounded away from zero", coefficient_back=back_by(
+    lambda s, v, l, qp: signed(v, (abs(v) * factor(s, qp) + (1 << l)) >> (1 + l))))
+viewers("scaling back cut toward zero", coefficient_back=back_by(
+    lambda s, v, l, qp: signed(v, abs(v) * factor(s, qp) >> (1 + l))))
+viewers("scaling back's shifts cancelled first", coefficient_back=back_by(floored_twice))
+viewers("scaling back not clipped, in 16 bits", coefficient_back=lambda s, v, l, qp: wrapped(
+    (v * factor(s, qp) + (1 << l)) >> (1 + l), 16))
+viewers("scaling back not clipped below", coefficient_back=lambda s, v, l, qp: wrapped(min(
+    (v * factor(s, qp) + (1 << l)) >> (1 + l), 32767), 16))
+viewers("scaling back not clipped above", coefficient_back=lambda s, v, l, qp: wrapped(max(
+    (v * factor(s, qp) + (1 << l)) >> (1 + l), -32768), 16))
+viewers("scaling back clipped at -32767", coefficient_back=lambda s, v, l, qp: max(
+    -32767, Paper.coefficient_back(s, v, l, qp)))
+viewers("scaling back clipped before it is shifted", coefficient_back=lambda s, v, l, qp: (
+    s.clip(v * factor(s, qp)) + (1 << l)) >> (1 + l))
+viewers("a level times s in 16 bits", coefficient_back=back_by(
+    lambda s, v, l, qp: (wrapped(v * s.s(qp), 16) * 2 ** (qp // 6) + (1 << l)) >> (1 + l)))
+viewers("s by QP / 6", s=lambda s, qp: s.BACK[qp // 6 % 6])
+viewers("s by QP mod 6 from the end", s=lambda s, qp: s.BACK[5 - qp % 6])
+viewers("2^(QP mod 6)", coefficient_back=back_by(
+    lambda s, v, l, qp: (v * s.s(qp) * 2 ** (qp % 6) + (1 << l)) >> (1 + l)))
+viewers("2^(QP/6) left out", coefficient_back=back_by(lambda s, v, l, qp: (v * s.s(qp) + (1 << l)) >> (1 + l)))
+viewers("QP / 6 rounded to nearest", coefficient_back=back_by(
+    lambda s, v, l, qp: (v * s.s(qp) * 2 ** ((qp + 3) // 6) + (1 << l)) >> (1 + l)))
+viewers("QP above 51 taken as 51", coefficient_back=lambda s, v, l, qp: Paper.coefficient_back(s, v, l, min(qp, 51)))
+viewers("71 for remainder 5", BACK=[40, 45, 51, 57, 64, 71])
+for one in range(5):
+    viewers("s of remainders %d and %d exchanged" % (one, one + 1), BACK=two_exchanged(Paper.BACK, one))
+for one in range(6):
+    viewers("s of remainder %d one more" % one, BACK=[s + (k == one) for k, s in enumerate(Paper.BACK)])
+viewers("levels behind the first row not scaled back", coefficients_back=lambda s, levels, log2, qp: (
+    Paper.coefficients_back(s, levels[:1 << log2], log2, qp) + levels[1 << log2:]))
+viewers("the last level not scaled back", coefficients_back=lambda s, levels, log2, qp: (
+    Paper.coefficients_back(s, levels[:-1], log2, qp) + levels[-1:]))
+viewers("the surplus scaled back too", scale_back=lambda s, buffer, log2, qp: Paper.scale_back(
+    s, buffer, log2, qp) and s.coefficients_back(buffer, log2, qp))
+viewers("scaling back stored by columns", coefficients_back=lambda s, levels, log2, qp: [
+    c for x in range(1 << log2) for c in Paper.coefficients_back(s, levels, log2, qp)[x::1 << log2]])
+viewers("2^16 left out of the inverse", residual=lambda s, v: s.clip(v >> 17))
+viewers("2^17 added", residual=lambda s, v: s.clip((v + 2 ** 17) >> 17))
+viewers("2^16 - 1 added", residual=lambda s, v: s.clip((v + 2 ** 16 - 1) >> 17))
+viewers("the inverse shifted by 16", residual=lambda s, v: s.clip((v + 2 ** 15) >> 16))
+viewers("the inverse shifted by 18", residual=lambda s, v: s.clip((v + 2 ** 17) >> 18))
+viewers("the inverse rounded away from zero", residual=lambda s, v: s.clip(signed(v, (abs(v) + 2 ** 16) >> 17)))
+viewers("the inverse cut toward zero", residual=lambda s, v: s.clip(signed(v, abs(v) >> 17)))
+viewers("the inverse not clipped, in 16 bits", residual=lambda s, v: wrapped((v + 2 ** 16) >> 17, 16))
+viewers("the inverse not clipped above", residual=lambda s, v: wrapped(max((v + 2 ** 16) >> 17, -32768), 16))
+viewers("the inverse not clipped below", residual=lambda s, v: wrapped(min((v + 2 ** 16) >> 17, 32767), 16))
+viewers("clipped at 32767 for both ends", clip=lambda s, v: max(-32767, min(32767, v)))
+viewers("clipped at 32768 for both ends, in 16 bits", clip=lambda s, v: wrapped(max(-32768, min(32768, v)), 16))
+viewers("clipped at -32769, in 16 bits", clip=lambda s, v: wrapped(max(-32769, min(32767, v)), 16))
+viewers("residuals clipped to 1023", residual=lambda s, v: max(-1023, min(1023, (v + 2 ** 16) >> 17)))
+viewers("sums of the inverse in 32 bits", residual=lambda s, v: s.clip((wrapped(v) + 2 ** 16) >> 17))
+viewers("rows, rounded by 7, and then by 10", residuals=in_stages(
+    rounded_to(7), lambda s, v: s.clip((v + 2 ** 9) >> 10)))
+viewers("columns, rounded by 7, and then by 10", residuals=in_stages(
+    rounded_to(7), lambda s, v: s.clip((v + 2 ** 9) >> 10), columns=True))
+viewers("rows, rounded by 7 after the first stage", residuals=in_stages(kept_wide(7)))
+viewers("rows, rounded by 5 after the first stage", residuals=in_stages(kept_wide(5)))
+viewers("rows, the last bit rounded after the first stage", residuals=in_stages(kept_wide(1)))
+viewers("columns, the last bit rounded after the first stage", residuals=in_stages(kept_wide(1), columns=True))
+viewers("rows, shifted by 7 after the first stage", residuals=in_stages(lambda v: v >> 7, lambda s, v: s.clip(
+    (v + 2 ** 9) >> 10)))
+viewers("rows, clipped after the first stage", residuals=in_stages(lambda v: max(-2 ** 21, min(2 ** 21 - 1, v))))
+viewers("columns, clipped after the first stage",
+        residuals=in_stages(lambda v: max(-2 ** 21, min(2 ** 21 - 1, v)), columns=True))
+viewers("rows, rounded by 7 and clipped to 16 bits", residuals=in_stages(
+    lambda v: max(-32768, min(32767, rounded_to(7)(v))), lambda s, v: s.clip((v + 2 ** 9) >> 10)))
+viewers("rows, the first stage in 24 bits", residuals=in_stages(lambda v: wrapped(v, 24)))
+viewers("the shift of the transform, 7 and both logs", residuals=lambda s, c, lw, lh: [
+    s.clip(s.shift_right(v, 7 + lw + lh)) for v in sums(lambda v: v, s.matrix(lw), s.matrix(lh), c)])
+viewers("width and height taken for each other", residuals=lambda s, c, lw, lh: Paper.residuals(s, c, lh, lw))
+viewers("width and height taken for each other throughout", inverse=lambda s, buffer, lw, lh: Paper.inverse(
+    s, buffer, lh, lw))
+viewers("residuals stored by columns", residuals=by_columns_back)
+viewers("the matrix where its transpose belongs", residuals=with_matrices(turned))
+viewers("the width's matrix alone turned", residuals=lambda s, c, lw, lh: [s.residual(v) for v in sums(
+    lambda v: v, turned(s.matrix(lw)), s.matrix(lh), c)])
+viewers("the height's matrix alone turned", residuals=lambda s, c, lw, lh: [s.residual(v) for v in sums(
+    lambda v: v, s.matrix(lw), turned(s.matrix(lh)), c)])
+viewers("the transform again", residuals=lambda s, c, lw, lh: list(map(s.clip, Paper.coefficients(s, c, lw, lh))))
+viewers("the first row of the matrix 90 times", residuals=with_matrices(lambda m: [[90] * len(m)] + m[1:]))
+viewers("odd rows with the other sign", residuals=with_matrices(
+    lambda m: [[-e if k % 2 else e for e in row] for k, row in enumerate(m)]))
+viewers("residuals from right to left", residuals=with_matrices(lambda m: [row[::-1] for row in m]))
+for side, k, n in ((32, 17, 20), (32, 31, 31), (32, 0, 5), (32, 1, 0), (16, 15, 15), (16, 7, 2), (8, 7, 3), (8, 2, 6),
+                   (4, 3, 1), (2, 1, 1)):
+    viewers("an entry of T_%d one more: row %d, column %d" % (side, k, n), **one_more(side, k, n))
+viewers("the last coefficient left out", **in_front(lambda lw, lh: (1 << lw + lh) - 1))
+viewers("the last row left out", **in_front(lambda lw, lh: (1 << lw + lh) - (1 << lw)))
+viewers("the first row alone", **in_front(lambda lw, lh: 1 << lw))
+viewers("16 rows at most", **in_front(lambda lw, lh: min(1 << lw + lh, 16 << lw)))
+viewers("the first coefficient of each 64 alone", residuals=lambda s, c, lw, lh: Paper.residuals(
+    s, [v if i % 64 == 0 or len(c) < 256 else 0 for i, v in enumerate(c)], lw, lh))
+viewers("the surplus turned round by inverse", inverse=lambda s, buffer, lw, lh: Paper.inverse(
+    s, buffer[:s.places(lw, lh)], lw, lh) + buffer[s.places(lw, lh):][::-1])
+viewers("the surplus not printed by scaleback", scale_back=lambda s, buffer, log2, qp: Paper.scale_back(
+    s, buffer, log2, qp)[:s.places(log2, log2)])
+viewers("the surplus not printed by inverse", inverse=lambda s, buffer, lw, lh: Paper.inverse(s, buffer, lw, lh)[
+    :s.places(lw, lh)])
+viewers("a coefficient of -32768 refused", **refused_samples(lambda block: -32768 in block))
+viewers("a sample above 1023 refused", **refused_samples(lambda block: any(abs(v) > 1023 for v in block)))
+viewers("scaled back, then refused", scale_back=written_when_refused)
+for one, other in ((1, 2), (2, 5), (1, 5)):
+    viewers("scaleback: refusals %d and %d exchanged" % (one, other), **through("scale_back", exchange(one, other)))
+viewers("inverse: refusals 1 and 5 exchanged", **through("inverse", exchange(1, 5)))
+for number in (1, 2, 5):
+    viewers("scaleback: refusal %d left out" % number, scale_back=of_another(
+        "scale_back", ordered=lambda s, tests, no=number: [t for t in tests if t[0] != no]))
+viewers("inverse: the width's side alone tested", inverse=inverse_tested(lambda lw, lh: lw))
+viewers("inverse: the height's side alone tested", inverse=inverse_tested(lambda lw, lh: lh))
+viewers("inverse: the sum of the sides tested", inverse=inverse_tested(lambda lw, lh: (lw + lh) // 2))
+viewers("inverse: sides refused as luma's", **{"inverse": of_another("inverse", LEAST_SIDE=2)})
+viewers("scaleback: sides refused as luma's", **{"scale_back": of_another("scale_back", LEAST_SIDE=2)})
+viewers("inverse: log2 side 6 taken", **{"inverse": of_another("inverse", MOST_SIDE=6)})
+viewers("scaleback: log2 side 6 taken", **{"scale_back": of_another("scale_back", MOST_SIDE=6)})
+viewers("inverse: log2 side 5 refused", **{"inverse": of_another("inverse", MOST_SIDE=4)})
+viewers("scaleback: log2 side 5 refused", **{"scale_back": of_another("scale_back", MOST_SIDE=4)})
+viewers("scaleback: QP 64 taken", **{"scale_back": of_another("scale_back", QP=64)})
+viewers("scaleback: QP 63 refused", **{"scale_back": of_another("scale_back", QP=62)})
+viewers("scaleback: QP cut to 8 bits", scale_back=lambda s, buffer, log2, qp: Paper.scale_back(
+    s, buffer, log2, qp % 256))
+viewers("scaleback: log2 side cut to 32 bits", scale_back=lambda s, buffer, log2, qp: Paper.scale_back(
+    s, buffer, log2 % 2 ** 32, qp))
+viewers("inverse: log2 sides cut to 32 bits", inverse=lambda s, buffer, lw, lh: Paper.inverse(
+    s, buffer, lw % 2 ** 32, lh % 2 ** 32))
+viewers("scaleback: a row is long enough", scale_back=lambda s, buffer, log2, qp: Paper.scale_back(
+    s, buffer + [0] * (s.places(log2, log2) - len(buffer)) if log2 < 6 and len(buffer) >= 1 << log2 else buffer, log2,
+    qp))
+viewers("scaleback: a place more asked for", scale_back=lambda s, buffer, log2, qp: Paper.scale_back(
+    s, buffer[:-1] if len(buffer) == s.places(log2, log2) else buffer, log2, qp))
+viewers("inverse: a place more asked for", inverse=lambda s, buffer, lw, lh: Paper.inverse(
+    s, buffer[:-1] if len(buffer) == s.places(lw, lh) else buffer, lw, lh))
+for verb in (b"scaleback", b"inverse"):
+    viewers("%s not read" % verb.decode(), answered=read_as(verb, b"malformed"))
+viewers("inverse read as transform", answered=read_as(b"inverse", b"transform"))
+viewers("scaleback read as inverse", answered=read_as(b"scaleback", b"inverse"))
+for verb, word in ((b"scaleback", b"scale_back"), (b"scaleback", b"scale-back"), (b"scaleback", b"scale"),
+                   (b"inverse", b"inv"), (b"inverse", b"inverse_transform"), (b"inverse", b"inverses")):
+    port("%s read as %s" % (word.decode(), verb.decode()), answered=read_as(word, verb))
+reader("QP of 64 bits read", u32=lambda s: s.whole(0, 2 ** 64 - 1) if s.words[0] == b"scaleback" else Words.u32(s))
+
 # ---- ports that can't differ: what is said of them is checked as far as the stored requests go
 equal("7, 8 and 9 asked of a skipped block too", "there m is at most 1, lambda × 2 at most 2^29, D below 2^57",
       meets_late_tests=lambda s, block: True)
@@ -846,6 +1113,11 @@ equal("second mode: not searched behind the last m above 0", "no nonzero level c
 equal("a line of more than 65,535 bytes read", "the longest request that can be read has 58,072",
       Words=type("Words", (Words,), {"LONGEST_LINE": 10 ** 9}))
 equal("lambda × (M+1) of 2^41 + 3 taken", "the nearest product past 2^41 is 2^41 + 4", PRICE=(1 << 41) + 3)
+equal("viewer's half: a level's product in 32 bits", "32768 × 57 × 2^10 + 2^5 is below 2^31",
+      coefficient_back=back_by(lambda s, v, l, qp: wrapped(wrapped(v * factor(s, qp)) + (1 << l)) >> (1 + l)))
+equal("viewer's half: clipped from 64 places on alone", "the sums of smaller blocks stay below 32767 × 2^17",
+      residuals=lambda s, c, lw, lh: Paper.residuals(s, c, lw, lh) if lw + lh >= 6 else [
+          (v + 2 ** 16) >> 17 for v in sums(lambda v: v, s.matrix(lw), s.matrix(lh), c)])
 
 
 # ---- the stored requests, and who gets them wrong

@@ -1,45 +1,65 @@
-//! Times the calls beside the Rust's release build, and the second mode beside the walk, in one process: nanoseconds a
-//! call, the best of many rounds, with what the copy of the input takes off; and how much the second mode saves.
-//! `bench [transform|quantise|least]`.
+//! Times the calls beside the Rust's release build, the second mode beside the walk, and the way back beside the way
+//! there, in one process: nanoseconds a call, the best of many rounds, with what the copy of the input takes off; and
+//! how much the second mode saves. `bench [transform|quantise|least|back]`.
 
 mod blocks;
+mod matrix;
+mod plain;
 mod recorder;
 use blocks::Random;
-use galemosu::{quantise, transform, Component, Costs, Mode, Quantise, Settings};
+use galemosu::{inverse, quantise, scale_back, transform, Component, Costs, Mode, Quantise, Settings};
 use std::time::Instant;
 
 const ROUNDS: usize = 60;
 
-/// What two calls take over copies of the blocks, in nanoseconds, without the copy: the best of many short rounds, in
-/// which the copy and the two calls are taken in turn, so that what else the machine does meets all three.
+/// Blocks, all of one length, and a call that is timed over copies of them.
+type Timed<'a> = (&'a [Vec<i16>], &'a mut dyn FnMut(&mut [i16]));
+
+/// What calls take over copies of their blocks, in nanoseconds, without the copy: the best of many short rounds, in
+/// which the copy and the calls are taken in turn, so that what else the machine does meets all of them.
+fn best_of<const N: usize>(repeat: usize, mut calls: [Timed; N]) -> [f64; N] {
+    let blocks = calls[0].0;
+    let mut room = vec![0i16; blocks[0].len()];
+    let mut round = |blocks: &[Vec<i16>], call: &mut dyn FnMut(&mut [i16]), least: &mut f64| {
+        let start = Instant::now();
+        for _ in 0..repeat {
+            for block in blocks {
+                room.copy_from_slice(block);
+                call(std::hint::black_box(&mut room));
+            }
+        }
+        *least = least.min(start.elapsed().as_nanos() as f64 / (repeat * blocks.len()) as f64);
+    };
+    let (mut copy, mut least) = (f64::MAX, [f64::MAX; N]);
+    for _ in 0..ROUNDS {
+        round(blocks, &mut |_| {}, &mut copy);
+        for ((blocks, call), least) in calls.iter_mut().zip(&mut least) {
+            round(blocks, &mut **call, least);
+        }
+    }
+    least.map(|time| time - copy)
+}
+
+/// Two calls over the same blocks.
 fn best(
     blocks: &[Vec<i16>],
     repeat: usize,
     one: &mut dyn FnMut(&mut [i16]),
     other: &mut dyn FnMut(&mut [i16]),
 ) -> (f64, f64) {
-    let mut room = vec![0i16; blocks[0].len()];
-    let mut least = [f64::MAX; 3];
-    for _ in 0..ROUNDS {
-        let calls: [&mut dyn FnMut(&mut [i16]); 3] = [&mut |_| {}, &mut *one, &mut *other];
-        for (call, least) in calls.into_iter().zip(&mut least) {
-            let start = Instant::now();
-            for _ in 0..repeat {
-                for block in blocks {
-                    room.copy_from_slice(block);
-                    call(std::hint::black_box(&mut room));
-                }
-            }
-            *least = least.min(start.elapsed().as_nanos() as f64);
-        }
-    }
-    let [copy, one, other] = least.map(|time| time / (repeat * blocks.len()) as f64);
-    (one - copy, other - copy)
+    let [one, other] = best_of(repeat, [(blocks, one), (blocks, other)]);
+    (one, other)
 }
 
 fn main() {
-    let tables: [(&str, fn()); 4] =
-        [("transform", transforms), ("quantise", quantisers), ("least", modes), ("least", savings)];
+    let tables: [(&str, fn()); 6] = [
+        ("transform", transforms),
+        ("quantise", quantisers),
+        ("least", modes),
+        ("least", savings),
+        ("back", inverses),
+        ("back", scalings),
+    ];
     let asked = std::env::args().nth(1);
     let wanted: Vec<fn()> = tables
         .iter()
@@ -47,7 +67,7 @@ fn main() {
         .map(|(_, table)| *table)
         .collect();
     if wanted.is_empty() {
-        eprintln!("usage: bench [transform|quantise|least]");
+        eprintln!("usage: bench [transform|quantise|least|back]");
         std::process::exit(2);
     }
     wanted.into_iter().for_each(|table| table());
@@ -62,11 +82,13 @@ fn call(log2: usize, lambda: f64, mode: Mode) -> Quantise<'static> {
     call
 }
 
+const SHAPES: [(usize, usize); 10] = [(1, 1), (2, 2), (3, 3), (4, 4), (5, 5), (3, 2), (2, 4), (4, 3), (3, 5), (5, 4)];
+
 fn transforms() {
     let mut random = Random::new(7);
     println!("| sides | blocks | Rust ns | Galemosu ns | times as fast |");
     println!("|---|---|---|---|---|");
-    for (log2_w, log2_h) in [(1, 1), (2, 2), (3, 3), (4, 4), (5, 5), (3, 2), (2, 4), (4, 3), (3, 5), (5, 4)] {
+    for (log2_w, log2_h) in SHAPES {
         let (w, n) = (1usize << log2_w, 1usize << (log2_w + log2_h));
         let kinds = [
             ("random", (0..16).map(|_| random.residuals(n)).collect::<Vec<_>>()),
@@ -176,4 +198,80 @@ fn saving(log2: usize, lambda: f64, blocks: &[Vec<i16>]) -> (usize, Vec<f64>) {
     };
     let saved = blocks.iter().map(saved).collect();
     (others, saved)
+}
+
+/// The inverse beside the transform of the same blocks, and beside a plain one in Rust.
+fn inverses() {
+    let mut random = Random::new(17);
+    println!("\n| sides | blocks | transform ns | inverse ns | inverse / transform | plain Rust ns | times as fast |");
+    println!("|---|---|---|---|---|---|---|");
+    for (log2_w, log2_h) in SHAPES {
+        let (w, n) = (1usize << log2_w, 1usize << (log2_w + log2_h));
+        let kinds = [
+            ("random", (0..16).map(|_| random.residuals(n)).collect::<Vec<_>>()),
+            ("text", (0..16).map(|_| random.text(w, n)).collect()),
+        ];
+        for (kind, residuals) in kinds {
+            let mut coefficients = residuals.clone();
+            coefficients.iter_mut().for_each(|b| transform(b, log2_w, log2_h).unwrap());
+            let mut plain = plain::Inverse::new(log2_w, log2_h);
+            for block in &coefficients {
+                let (mut ours, mut theirs) = (block.clone(), block.clone());
+                inverse(&mut ours, log2_w, log2_h).unwrap();
+                plain.run(&mut theirs);
+                assert_eq!(ours, theirs);
+            }
+            let [forth, back, plain] = best_of(
+                60_000 / n + 3,
+                [
+                    (&residuals, &mut |b| transform(b, log2_w, log2_h).unwrap()),
+                    (&coefficients, &mut |b| inverse(b, log2_w, log2_h).unwrap()),
+                    (&coefficients, &mut |b| plain.run(b)),
+                ],
+            );
+            println!(
+                "| {w}×{} | {kind} | {forth:.0} | {back:.0} | {:.2} | {plain:.0} | {:.2} |",
+                1 << log2_h,
+                back / forth,
+                plain / back
+            );
+        }
+    }
+}
+
+/// Scaling back the levels of sharp text, beside plain Rust, and beside the quantiser's skip of a blank block.
+fn scalings() {
+    let mut random = Random::new(19);
+    println!("\n| side | nonzero levels | scale_back ns | plain Rust ns | times as fast | quantiser's skip ns |");
+    println!("|---|---|---|---|---|---|");
+    for log2 in 1..=5 {
+        let (w, n) = (1usize << log2, 1usize << (2 * log2));
+        let quantiser = call(log2, recorder::LAMBDA, Mode::Walk);
+        let coefficients = |mut block: Vec<i16>| {
+            transform(&mut block, log2, log2).unwrap();
+            block
+        };
+        let blank: Vec<Vec<i16>> = (0..16).map(|_| coefficients(random.blank(n))).collect();
+        let mut levels: Vec<Vec<i16>> = (0..16).map(|_| coefficients(random.text(w, n))).collect();
+        let counts = levels.iter_mut().map(|b| quantise(b, &quantiser).unwrap().count);
+        let count: u32 = counts.sum();
+        assert!(blank.iter().all(|b| quantise(&mut b.clone(), &quantiser).unwrap().is_empty()));
+        for block in &levels {
+            let (mut ours, mut theirs) = (block.clone(), block.clone());
+            scale_back(&mut ours, log2, recorder::QP).unwrap();
+            plain::scale_back(&mut theirs, log2, recorder::QP);
+            assert_eq!(ours, theirs);
+        }
+        let [back, plain, skip] = best_of(
+            60_000 / n + 3,
+            [
+                (&levels, &mut |b| scale_back(b, log2, recorder::QP).unwrap()),
+                (&levels, &mut |b| plain::scale_back(b, log2, std::hint::black_box(recorder::QP))),
+                (&blank, &mut |b| {
+                    std::hint::black_box(quantise(b, &quantiser).unwrap());
+                }),
+            ],
+        );
+        println!("| {w} | {} | {back:.0} | {plain:.0} | {:.2} | {skip:.0} |", count / 16, plain / back);
+    }
 }

@@ -1,5 +1,5 @@
-//! The three calls with all their inputs, made at random: sound ones, such at the limits of the late refusals, and such
-//! with several faults at once, so that the order of the tests shows.
+//! The calls with all their inputs, made at random: sound ones, such at the limits of the late refusals, and such with
+//! several faults at once, so that the order of the tests shows.
 
 use crate::blocks::Random;
 use crate::limits::to_a_limit;
@@ -44,8 +44,34 @@ pub struct SubBlock {
     pub costs: Costs,
 }
 
+#[derive(Debug)]
+pub struct ScaleBack {
+    pub buffer: Vec<i16>,
+    pub log2_side: usize,
+    pub qp: u32,
+}
+
+#[derive(Debug)]
+pub struct Inverse {
+    pub buffer: Vec<i16>,
+    pub log2_w: usize,
+    pub log2_h: usize,
+}
+
 impl Transform {
     /// How many places of the buffer the call is about, of sides that are not refused.
+    pub fn needs(&self) -> usize {
+        1 << (self.log2_w + self.log2_h)
+    }
+}
+
+impl ScaleBack {
+    pub fn needs(&self) -> usize {
+        1 << (2 * self.log2_side)
+    }
+}
+
+impl Inverse {
     pub fn needs(&self) -> usize {
         1 << (self.log2_w + self.log2_h)
     }
@@ -196,7 +222,51 @@ pub fn sub_block(random: &mut Random, log2_luma: usize, run: u32, faulty: bool) 
     call
 }
 
+/// Scaling back of the given side and QP, or a faulty call of it.
+pub fn scale_back(random: &mut Random, log2_side: usize, qp: u32, faulty: bool) -> ScaleBack {
+    let mut call = ScaleBack { buffer: random.any(1 << (2 * log2_side)), log2_side, qp };
+    if random.wrong(faulty) {
+        call.log2_side = random.one(&WRONG_SIDES);
+    }
+    if random.wrong(faulty) {
+        call.qp = random.one(&WRONG_QPS);
+    }
+    random.lend(&mut call.buffer, faulty);
+    call
+}
+
+/// An inverse of the given sides, or a faulty one: of the coefficients of a picture, or of any.
+pub fn inverse(random: &mut Random, log2_w: usize, log2_h: usize, faulty: bool) -> Inverse {
+    let n = 1 << (log2_w + log2_h);
+    let mut buffer = random.any(n);
+    if random.below(3) == 0 {
+        buffer = random.accepted_picture(1 << log2_w, n);
+        galemosu::transform(&mut buffer, log2_w, log2_h).unwrap();
+    }
+    let mut call = Inverse { buffer, log2_w, log2_h };
+    if random.wrong(faulty) {
+        call.log2_w = random.one(&WRONG_SIDES);
+    }
+    if random.wrong(faulty) {
+        call.log2_h = random.one(&WRONG_SIDES);
+    }
+    random.lend(&mut call.buffer, faulty);
+    call
+}
+
 impl Random {
+    /// Numbers of 16 bits: up to a size, few of them, the limits alone, or all but 0 near the front.
+    fn any(&mut self, n: usize) -> Vec<i16> {
+        let reach = (1i64 << self.below(16)).min(32767);
+        match self.below(6) {
+            0 => (0..n).map(|_| self.next() as i16).collect(),
+            1 => (0..n).map(|_| self.one(&[32767, -32768])).collect(),
+            2 => (0..n).map(|_| if self.below(9) == 0 { self.next() as i16 } else { 0 }).collect(),
+            3 => (0..n).map(|i| if i < 12 { self.between(-reach, reach) as i16 } else { 0 }).collect(),
+            _ => (0..n).map(|_| self.between(-reach, reach) as i16).collect(),
+        }
+    }
+
     /// Whether an input is to be wrong: in a faulty call, one of five.
     fn wrong(&mut self, faulty: bool) -> bool {
         faulty && self.below(5) == 0
@@ -238,6 +308,11 @@ impl Random {
             3 => self.flat(n),
             _ => self.residuals(n),
         }
+    }
+
+    /// The same, held to what the transform accepts: light that falls off over a high block goes beyond.
+    pub fn accepted_picture(&mut self, w: usize, n: usize) -> Vec<i16> {
+        self.picture(w, n).into_iter().map(|residual| residual.clamp(-1023, 1023)).collect()
     }
 
     /// One residual everywhere, near a limit or anywhere.

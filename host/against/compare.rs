@@ -1,17 +1,22 @@
-//! Holds the three calls against the Rust that they were ported from, built with overflow checks, and against document
-//! 01 worked out apart (paper.rs), and the second mode of two of them against the cheapest block found apart
-//! (least.rs): `compare transform|quantise|sub_block|least|all [N]`, N random accepted calls of each. Status 0 when
-//! nothing differed and all that must come has come.
+//! Holds the recorder's three calls against the Rust that they were ported from, built with overflow checks, and
+//! against document 01 worked out apart (paper.rs), the second mode of two of them against the cheapest block found
+//! apart (least.rs), and the viewer's two calls against their formulas worked out apart (formula.rs):
+//! `compare transform|quantise|sub_block|least|back|all [N]`, N random accepted calls of each. Status 0 when nothing
+//! differed and all that must come has come.
 
+mod back;
 mod blocks;
 mod calls;
+mod formula;
 mod least;
 mod limits;
+mod matrix;
 mod order;
 mod paper;
 mod quantise;
 mod sub_block;
 mod tally;
+mod there;
 mod transform;
 
 use galemosu::{Costs, Refused};
@@ -27,6 +32,10 @@ const COMPARISONS: [Comparison; 3] = [
 ];
 /// The second mode, which the Rust has not.
 const LEAST: Comparison = ("least", least::compare, 120_000);
+/// The way back, which it has neither.
+const BACK: [Comparison; 2] = [("back", back::scale_back, 100_000), ("back", back::inverse, 200_000)];
+/// How many blocks go there and back.
+const THERE_AND_BACK: u64 = 100_000;
 
 pub fn fault_of(refused: Refused) -> Fault {
     (refused.refusal.number(), refused.component.map_or(0, |component| component as usize))
@@ -57,12 +66,18 @@ fn main() {
         refused += tally.refused;
         different += tally.different;
     }
-    if what != LEAST.0 {
+    if what != LEAST.0 && what != BACK[0].0 {
         print!("in all: {both} accepted through both, {beyond} past the Rust's 32-bit rate, ");
         println!("{refused} refused, {different} different");
     }
     if what == "all" || what == LEAST.0 {
         good &= LEAST.1(number.unwrap_or(LEAST.2)).report();
+    }
+    if what == "all" || what == BACK[0].0 {
+        for (_, compare, usual) in BACK {
+            good &= compare(number.unwrap_or(usual)).report();
+        }
+        good &= there::compare(number.unwrap_or(THERE_AND_BACK));
     }
     std::process::exit(!good as i32);
 }

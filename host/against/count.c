@@ -1,9 +1,12 @@
 /* The program whose instructions host/count-x86 counts: linked once with the library's archive and once with the
- * Rust, each of which has galemosu_transform and galemosu_quantise_y. It stands on nothing but Linux on x86-64.
+ * Rust, each of which has galemosu_transform and galemosu_quantise_y; the way back is in the archive alone. It stands
+ * on nothing but Linux on x86-64.
  *
  *   count transform LOG2_W LOG2_H 1   TURNS times: copy a block of random residuals in, and transform it
  *   count quantise LOG2 LOG2 1        for each of BLOCKS blocks of a file of samples.rs on standard input, transformed:
  *                                     copy it in, and quantise it
+ *   count inverse LOG2_W LOG2_H 1     as transform, of the coefficients of that block
+ *   count scale LOG2 LOG2 1           as transform, of that block taken for levels, at QP 34
  *
  * With 0 for 1 the same, with a call of two instructions that do nothing for the one that is counted. Writes a
  * checksum of what the calls left, and of the quantiser's counts. What it does beside the calls takes as many
@@ -14,10 +17,12 @@ typedef unsigned long u64;
 typedef __attribute__((vector_size(16), aligned(1), may_alias)) char sixteen;
 
 typedef unsigned transforms(short *block, size_t len, size_t log2_w, size_t log2_h);
+typedef unsigned scales(short *block, size_t len, size_t log2_side, unsigned qp);
 typedef unsigned quantises(short *block, size_t len, size_t log2_side, unsigned qp, double lambda, unsigned flags,
     const u64 costs[28], u64 answer[3]);
 
-transforms galemosu_transform, no_transform;
+transforms galemosu_transform, galemosu_inverse, no_transform;
+scales galemosu_scale_back, no_scale;
 quantises galemosu_quantise_y, no_quantise;
 /* of the Rust alone: takes the cost tables over, which its quantiser is lent in a shape of its own */
 __attribute__((weak)) void prepare(const u64 costs[28]);
@@ -29,8 +34,8 @@ __asm__(".globl _start\n"
         "and $-16, %rsp\n"
         "call run\n"
         "ud2\n"
-        ".globl no_transform, no_quantise\n"
-        "no_transform: no_quantise: xor %eax, %eax\n"
+        ".globl no_transform, no_scale, no_quantise\n"
+        "no_transform: no_scale: no_quantise: xor %eax, %eax\n"
         "ret\n");
 
 /* Sixteen bytes at a store, as on a processor of which no more is known than x86-64; the compiler unrolls the loop
@@ -87,19 +92,39 @@ static void add(const short *block, size_t n)
 }
 
 /* residuals of -1023 to 1023, by the generator of blocks.rs */
-static unsigned transform_all(size_t log2_w, size_t log2_h, int counted)
+static size_t residuals(size_t log2_w, size_t log2_h)
 {
-    transforms *const both[] = {no_transform, galemosu_transform}, *volatile what = both[counted];
     size_t n = (size_t)1 << (log2_w + log2_h);
     u64 random = 0x9e3779b97f4a7c15u + 2 * (8 * log2_w + log2_h);
-    unsigned refused = 0;
     for (size_t i = 0; i < n; i++) {
         random ^= random << 13, random ^= random >> 7, random ^= random << 17;
         given[0][i] = (short)((long)((random >> 11) % 2047) - 1023);
     }
+    return n;
+}
+
+static unsigned transform_all(size_t log2_w, size_t log2_h, int back, int counted)
+{
+    transforms *const all[] = {no_transform, galemosu_transform, galemosu_inverse};
+    transforms *volatile what = all[counted ? 1 + back : 0];
+    size_t n = residuals(log2_w, log2_h);
+    unsigned refused = back ? galemosu_transform(given[0], n, log2_w, log2_h) : 0;
     for (int turn = 0; turn < TURNS; turn++) {
         memcpy(room, given[0], n * sizeof *room);
         refused |= what(room, n, log2_w, log2_h);
+        add(room, n);
+    }
+    return refused;
+}
+
+static unsigned scale_all(size_t log2, int counted)
+{
+    scales *const both[] = {no_scale, galemosu_scale_back}, *volatile what = both[counted];
+    size_t n = residuals(log2, log2);
+    unsigned refused = 0;
+    for (int turn = 0; turn < TURNS; turn++) {
+        memcpy(room, given[0], n * sizeof *room);
+        refused |= what(room, n, log2, 34);
         add(room, n);
     }
     return refused;
@@ -146,7 +171,13 @@ __attribute__((noreturn, used)) void run(const u64 *stack)
     const char *const *words = (const char *const *)(stack + 1);
     size_t log2_w = (size_t)(words[2][0] - '0'), log2_h = (size_t)(words[3][0] - '0');
     int counted = words[4][0] - '0';
-    unsigned refused = words[1][0] == 't' ? transform_all(log2_w, log2_h, counted) : quantise_all(log2_w, counted);
+    unsigned refused;
+    switch (words[1][0]) {
+    case 't': refused = transform_all(log2_w, log2_h, 0, counted); break;
+    case 'i': refused = transform_all(log2_w, log2_h, 1, counted); break;
+    case 's': refused = scale_all(log2_w, counted); break;
+    default: refused = quantise_all(log2_w, counted);
+    }
 
     char line[17];
     for (int i = 0; i < 16; i++) line[i] = "0123456789abcdef"[sum >> (60 - 4 * i) & 15];

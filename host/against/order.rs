@@ -1,7 +1,7 @@
 //! Which refusal document 01 gives a call, and of which component: the tests of each call, in its order, written from
-//! its text alone.
+//! its text alone; and document 02's of the two calls of the way back.
 
-use crate::calls::{Quantise, SubBlock, Transform};
+use crate::calls::{Inverse, Quantise, ScaleBack, SubBlock, Transform};
 
 /// A refusal's number and the component that it is reported with.
 pub type Fault = (u32, usize);
@@ -73,4 +73,21 @@ pub fn sub_block(call: &SubBlock) -> Option<Fault> {
         tests.push((9, k, Box::new(move || call.block(k, &call.coefficients(k)).distortion_fault())));
     }
     first(tests)
+}
+
+/// "Refusals: 1, 2, 5 as in 01; no sample is refused."
+pub fn scale_back(call: &ScaleBack) -> Option<Fault> {
+    first(vec![
+        (1, 0, Box::new(|| !(1..=5).contains(&call.log2_side))),
+        (2, 0, Box::new(|| call.qp > 63)),
+        (5, 0, Box::new(|| call.buffer.len() < call.needs())),
+    ])
+}
+
+/// The same, of a call that has no QP.
+pub fn inverse(call: &Inverse) -> Option<Fault> {
+    first(vec![
+        (1, 0, Box::new(|| !(1..=5).contains(&call.log2_w) || !(1..=5).contains(&call.log2_h))),
+        (5, 0, Box::new(|| call.buffer.len() < call.needs())),
+    ])
 }

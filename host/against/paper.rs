@@ -2,30 +2,10 @@
 //! the faults 7 to 9, the levels and what they cost, in 128-bit whole numbers. Slow and plain: it is there to be held
 //! against the text.
 
+use crate::matrix::matrix;
 use galemosu::{Component, Costs};
 
 const SCALES: [i128; 6] = [26214, 23302, 20560, 18396, 16384, 14564];
-
-/// c(0) to c(31): the first column of T_32.
-const FIRST_COLUMN: [i64; 32] = [
-    64, 90, 90, 90, 89, 88, 87, 85, 84, 82, 80, 78, 75, 73, 70, 67, 64, 61, 57, 54, 50, 47, 43, 39, 35, 30, 26, 22, 18,
-    13, 9, 4,
-];
-
-/// T_N[k][n] of N = 2^log2.
-fn matrix(log2: usize, k: usize, n: usize) -> i64 {
-    let k = k << (5 - log2);
-    if k == 0 {
-        return 64;
-    }
-    let a = (2 * n + 1) * k % 128;
-    let a = if a > 64 { 128 - a } else { a };
-    if a < 32 {
-        FIRST_COLUMN[a]
-    } else {
-        -FIRST_COLUMN[64 - a]
-    }
-}
 
 /// The coefficients of residuals 2^log2_w wide and 2^log2_h high.
 pub fn transform(residuals: &[i16], log2_w: usize, log2_h: usize) -> Vec<i16> {

@@ -2,7 +2,7 @@
  * have the same layout: 64 bits, little-endian. */
 #include "galemosu.h"
 
-enum what { VERSION, TRANSFORM, QUANTISE_Y, QUANTISE_U, QUANTISE_V, SUB_BLOCK };
+enum what { VERSION, TRANSFORM, QUANTISE_Y, QUANTISE_U, QUANTISE_V, SUB_BLOCK, SCALE_BACK, INVERSE };
 
 struct call {
     uint64_t what, len, log2_a, log2_b; /* one log2 side, or width and height */

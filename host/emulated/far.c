@@ -40,6 +40,8 @@ static uint32_t made(struct call *c, int16_t *buffer)
     case QUANTISE_Y: return quantised(galemosu_quantise_y, c, buffer);
     case QUANTISE_U: return quantised(galemosu_quantise_u, c, buffer);
     case QUANTISE_V: return quantised(galemosu_quantise_v, c, buffer);
+    case SCALE_BACK: return galemosu_scale_back(buffer, c->len, c->log2_a, c->qp[0]);
+    case INVERSE: return galemosu_inverse(buffer, c->len, c->log2_a, c->log2_b);
     default:
         return galemosu_sub_block(buffer, c->len, c->log2_a, c->qp, c->lambda, c->run, c->flags, &c->costs, c->answer);
     }

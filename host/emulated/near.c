@@ -102,3 +102,15 @@ uint32_t galemosu_sub_block(int16_t *buffer, size_t len, size_t log2_luma, const
     memcpy(answer, c.answer, sizeof c.answer);
     return c.result;
 }
+
+uint32_t galemosu_scale_back(int16_t *block, size_t len, size_t log2_side, uint32_t qp)
+{
+    struct call c = {.what = SCALE_BACK, .len = len, .log2_a = log2_side, .qp = {qp}};
+    return relayed(&c, block);
+}
+
+uint32_t galemosu_inverse(int16_t *block, size_t len, size_t log2_w, size_t log2_h)
+{
+    struct call c = {.what = INVERSE, .len = len, .log2_a = log2_w, .log2_b = log2_h};
+    return relayed(&c, block);
+}

@@ -1,6 +1,6 @@
 /* Calls every function of galemosu.h: document 01's P1 and P5, a block on which the two modes differ, a refusal of
- * each kind of call, flags and run bits that mean nothing, each pair of the costs by its name. Status 0 if all is as it
- * must be. */
+ * each kind of call, flags and run bits that mean nothing, each pair of the costs by its name, and the way back of a
+ * block. Status 0 if all is as it must be. */
 #include "galemosu.h"
 #include <string.h>
 
@@ -139,10 +139,42 @@ static int sub_block_is_right(uint32_t flags)
         && answer[1] > 0 && answer[3] == 0 && answer[6] == 0 && buffer[23] == 1024;
 }
 
+/* At QP 34 a step of side 2 is 512. At QP 63 a level of 1 is 14592, and a large one is clipped. Of several faults the
+ * first is told, and the levels are left. */
+static int scale_back_is_right(void)
+{
+    int16_t block[] = {3, -1, 4, 1, 99}, right[] = {1536, -512, 2048, 512, 99};
+    int16_t far[] = {32767, -32768, 1, 0}, clipped[] = {32767, -32768, 14592, 0}, held[sizeof far / sizeof *far];
+    if (galemosu_scale_back(block, 5, 1, 34) != GALEMOSU_ACCEPTED || memcmp(block, right, sizeof block))
+        return 0;
+    memcpy(held, far, sizeof far);
+    if (galemosu_scale_back(far, 3, 0, 64) != GALEMOSU_SIDE || galemosu_scale_back(far, 3, 6, 64) != GALEMOSU_SIDE
+        || galemosu_scale_back(far, 3, 1, 64) != GALEMOSU_QP || galemosu_scale_back(far, 3, 1, 63) != GALEMOSU_LENGTH
+        || memcmp(far, held, sizeof far))
+        return 0;
+    return galemosu_scale_back(far, 4, 1, 63) == GALEMOSU_ACCEPTED && !memcmp(far, clipped, sizeof far);
+}
+
+/* P1 and back; a coefficient that stands for a change along the row, 4 wide and 2 high; the lowest coefficients. */
+static int inverse_is_right(void)
+{
+    int16_t block[] = {80, -16, -32, 0, 99}, right[] = {1, 2, 3, 4, 99};
+    int16_t wide[] = {0, 512, 0, 0, 0, 0, 0, 0}, row[] = {21, 9, -9, -21, 21, 9, -9, -21};
+    int16_t low[] = {-32768, -32768, -32768, -32768}, sum[] = {-4096, 0, 0, 0}, held[sizeof low / sizeof *low];
+    if (galemosu_inverse(block, 5, 1, 1) != GALEMOSU_ACCEPTED || memcmp(block, right, sizeof block)
+        || galemosu_inverse(wide, 8, 2, 1) != GALEMOSU_ACCEPTED || memcmp(wide, row, sizeof wide))
+        return 0;
+    memcpy(held, low, sizeof low);
+    if (galemosu_inverse(low, 3, 0, 1) != GALEMOSU_SIDE || galemosu_inverse(low, 3, 1, 6) != GALEMOSU_SIDE
+        || galemosu_inverse(low, 3, 1, 1) != GALEMOSU_LENGTH || memcmp(low, held, sizeof low))
+        return 0;
+    return galemosu_inverse(low, 4, 1, 1) == GALEMOSU_ACCEPTED && !memcmp(low, sum, sizeof low);
+}
+
 int main(void)
 {
     all_costs(32768);
     return !(galemosu_version() == GALEMOSU_VERSION && transform_is_right() && quantise_is_right() && modes_are_right()
         && skip_is_right() && costs_are_right() && sub_block_is_right(INTRA)
-        && sub_block_is_right(INTRA | GALEMOSU_LEAST));
+        && sub_block_is_right(INTRA | GALEMOSU_LEAST) && scale_back_is_right() && inverse_is_right());
 }

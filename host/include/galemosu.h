@@ -1,14 +1,18 @@
-/* The proved transform and quantiser of an EVC recorder: libgalemosu.a, version 0.3.0.
+/* The proved transform and quantiser of an EVC recorder, and their way back: libgalemosu.a, version 0.4.0.
  *
- * docs/HOSTING.md walks through coding one block; docs/PROMISES.md says what is proved. What is proved speaks of
- * residuals, coefficients, levels and prices, never of what a viewer shows of a sample (docs/ANSWER.md).
+ * The recorder's half is galemosu_transform, galemosu_quantise_* and galemosu_sub_block; the viewer's is
+ * galemosu_scale_back and galemosu_inverse. docs/HOSTING.md walks through coding and showing one block;
+ * docs/PROMISES.md says what is proved. What is proved speaks of residuals, coefficients, levels and prices, never of
+ * what a viewer shows of a sample (docs/ANSWER.md).
  *
  * RESULTS. Every call comes back, for all numbers, lengths and samples. The result is 0 (GALEMOSU_ACCEPTED) or the
  * number of the first fault that holds, in the order of enum galemosu_refusal; a refused buffer then holds what it
  * held. A host treats every result but 0 as a refusal, also a number that this header does not name.
  *
  * ANSWERS. `answer` is written in either case. Of a refusal it has the component (0, 1, 2 for Y, U, V; 0 where the
- * fault belongs to none: GALEMOSU_SIDE, GALEMOSU_COST, GALEMOSU_LENGTH) and zeros.
+ * fault belongs to none: GALEMOSU_SIDE, GALEMOSU_COST, GALEMOSU_LENGTH) and zeros. galemosu_transform,
+ * galemosu_scale_back and galemosu_inverse have no answer: they treat all components alike, and a fault of theirs
+ * belongs to none.
  *
  * MEMORY. A block or buffer is a pointer and a length in samples. What lies behind the block in a longer buffer is
  * neither read nor changed. Pointers are not null, also at length 0, and aligned to their type; arrays have the lengths
@@ -19,8 +23,8 @@
  * depends on its arguments alone, and calls may run on any threads at the same time. Of C's library only memcpy and
  * memset are asked for. Floating point is used for lambda alone, and must round to nearest, as C does at its start.
  *
- * STACK. A call takes at most 16 KB in galemosu_transform, 14 KB in galemosu_quantise_*, 20 KB in galemosu_sub_block:
- * measured by host/include/stack.c, which fails where it is more.
+ * STACK. A call takes at most 16 KB in galemosu_transform and in galemosu_inverse, 14 KB in galemosu_quantise_*, 20 KB
+ * in galemosu_sub_block, 1 KB in galemosu_scale_back: measured by host/include/stack.c, which fails where it is more.
  *
  * TARGETS. 64-bit processors only: this is asserted below.
  */
@@ -35,7 +39,7 @@ extern "C" {
 #endif
 
 /* major*10000 + minor*100 + patch, of this header */
-#define GALEMOSU_VERSION 300
+#define GALEMOSU_VERSION 400
 
 /* The same of the archive that was linked. A host compares the two once, at its start: an archive of another version
  * may read other arguments. */
@@ -108,8 +112,8 @@ typedef struct {
  * 0 and 0.
  */
 
-/* Residuals become coefficients, in place: by rows, 2^log2_w wide and 2^log2_h high. Tests 1, 5 and 6, in this order.
- * There is no answer array; a fault belongs to no component. */
+/* Residuals become coefficients, in place: by rows, 2^log2_w wide and 2^log2_h high. Tests 1, 5 and 6, in this
+ * order. */
 uint32_t galemosu_transform(int16_t *block, size_t len, size_t log2_w, size_t log2_h);
 
 /* Coefficients of a square block of side 2^log2_side become levels, in place, by the costs and flags of one component:
@@ -137,6 +141,24 @@ uint32_t galemosu_quantise_v(int16_t *block, size_t len, size_t log2_side, uint3
  * and it answers count 0 and price 0. The side, all 28 costs and the length of all three are asked for all the same. */
 uint32_t galemosu_sub_block(int16_t *buffer, size_t len, size_t log2_luma, const uint32_t qp[3], const double lambda[3],
     uint32_t run, uint32_t flags, const galemosu_costs *costs, uint64_t answer[7]);
+
+/* THE WAY BACK. Of the two calls below it is proved that they give the numbers of the formulas written here: document
+ * 02's, as the standard's own text, ISO/IEC 23094-1, was not at hand. They bring back what was coded, not what the
+ * camera saw; and what a viewer shows is that plus its guess, clipped to a sample's range and filtered at the edges of
+ * blocks, none of which is here. */
+
+/* Levels of a square block of side 2^log2_side become the coefficients that a viewer takes them for, in place, with
+ * the QP that they were quantised with. Each by itself becomes level * s * 2^(QP / 6), plus 2^log2_side, shifted right
+ * by 1 + log2_side, clipped to 16 bits; s is 40, 45, 51, 57, 64, 72 by QP mod 6, and QP / 6 is a whole number.
+ * Tests 1, 2 and 5, in this order. No level is refused. */
+uint32_t galemosu_scale_back(int16_t *block, size_t len, size_t log2_side, uint32_t qp);
+
+/* Coefficients become residuals, in place: by rows, 2^log2_w wide and 2^log2_h high. Residual (y, x) is the sum over
+ * all v and u of T_h[v][y] * T_w[u][x] * coefficient(v, u), plus 2^16, shifted right by 17, clipped to 16 bits, with
+ * the matrices of galemosu_transform. At 2x2 the inverse of an accepted transform gives the residuals back; at other
+ * sides it comes near them. What comes out is not held to -1023..1023, and the guess is not in it.
+ * Tests 1 and 5, in this order. No coefficient is refused. */
+uint32_t galemosu_inverse(int16_t *block, size_t len, size_t log2_w, size_t log2_h);
 
 #ifdef __cplusplus
 }

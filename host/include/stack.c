@@ -1,7 +1,8 @@
 /* How much stack the calls of galemosu.h take: the memory below this program's own frame is filled with one byte, a
  * call is made, and the lowest byte that has changed tells. Every shape, side, component and mode, on blocks that are
- * skipped and blocks of which every level is kept. Prints the most of each call in bytes; status 1 where one takes more
- * than galemosu.h says. What memcpy and memset take counts. */
+ * skipped and blocks of which every level is kept; the way back on the same blocks, taken for levels and coefficients.
+ * Prints the most of each call in bytes, 512 where it is no more than that; status 1 where one takes more than
+ * galemosu.h says. What memcpy and memset take counts. */
 #include "galemosu.h"
 #include <stdio.h>
 #include <string.h>
@@ -33,6 +34,9 @@ static void sub_block(void)
 {
     refused |= galemosu_sub_block(block, 3 * 512, log2_a, qp, lambda, 7, flags, &costs, answer);
 }
+
+static void scale_back(void) { refused |= galemosu_scale_back(block, 1024, log2_a, qp[0]); }
+static void inverse(void) { refused |= galemosu_inverse(block, 1024, log2_a, log2_b); }
 
 /* The bytes below this frame that a call has changed, from the lowest of them up. */
 static __attribute__((noinline)) size_t depth(void (*call)(void), unsigned char paint)
@@ -97,6 +101,8 @@ int main(void)
     good &= within("galemosu_quantise_u", most_of(quantise_u, 1), 14 * 1024);
     good &= within("galemosu_quantise_v", most_of(quantise_v, 1), 14 * 1024);
     good &= within("galemosu_sub_block", most_of(sub_block, 2), 20 * 1024);
+    good &= within("galemosu_scale_back", most_of(scale_back, 1), 1024);
+    good &= within("galemosu_inverse", most_of(inverse, 1), 16 * 1024);
     if (refused)
         printf("a call was refused: not all was measured\n");
     return !good || refused;

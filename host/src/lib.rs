@@ -1,13 +1,15 @@
-//! The proved transform and quantiser of an EVC recorder, for a Rust host. `docs/HOSTING.md` of the repository walks
-//! through coding one block; `docs/PROMISES.md` says what is proved.
+//! The proved transform and quantiser of an EVC recorder, and their way back, for a Rust host. `docs/HOSTING.md` of
+//! the repository walks through coding and showing one block; `docs/PROMISES.md` says what is proved.
 //!
-//! [`transform`] turns a block of residuals into coefficients, [`quantise`] turns those of a square block into levels,
-//! and [`sub_block`] does both for the three components of a block. All work in place, on lent slices of any length,
-//! and look at everything themselves: every call comes back, for all settings, lengths and samples. A refused call
-//! gives a [`Refused`] and leaves the lent block as it was.
+//! The recorder's half: [`transform`] turns a block of residuals into coefficients, [`quantise`] turns those of a
+//! square block into levels, and [`sub_block`] does both for the three components of a block. The viewer's half:
+//! [`scale_back`] turns the levels of a square block into coefficients, and [`inverse`] turns coefficients into
+//! residuals. All work in place, on lent slices of any length, and look at everything themselves: every call comes
+//! back, for all settings, lengths and samples. A refused call says why, as a [`Refused`] or a [`Refusal`], and leaves
+//! the lent block as it was.
 //!
 //! ```
-//! use galemosu::{quantise, transform, Component, Costs, Quantise, Refused, Settings};
+//! use galemosu::{inverse, quantise, scale_back, transform, Component, Costs, Quantise, Refused, Settings};
 //!
 //! fn main() -> Result<(), Refused> {
 //!     let mut block = [100, 98, -40, 5]; // 2×2 residuals, by rows
@@ -16,6 +18,10 @@
 //!     (call.intra_slice, call.intra_coded) = (true, true);
 //!     let coded = quantise(&mut block, &call)?;
 //!     assert_eq!((block, coded.count), ([3, -1, 4, 1], 4));
+//!
+//!     scale_back(&mut block, 1, 34)?; // what a viewer makes of these levels
+//!     inverse(&mut block, 1, 1)?;
+//!     assert_eq!(block, [112, 112, -48, 16]);
 //!     Ok(())
 //! }
 //! ```
@@ -25,6 +31,11 @@
 //! For accepted calls: no level above its rounded magnitude, no sign changed, nothing added, the price reported that of
 //! the block written. A level within its bound can still leave a stroke that only the guess had, or darken a gap: what
 //! a viewer can see is measured, not proved, in `docs/ANSWER.md`. The Rust of this crate is not proved either.
+//!
+//! Of the way back it is proved that the two calls give the numbers of their definition, the formulas that stand at
+//! [`scale_back`] and [`inverse`]: document 02's, as the standard's own text, ISO/IEC 23094-1, was not at hand. They
+//! bring back what was coded, not what the camera saw; and what a viewer shows is that plus its guess, clipped to a
+//! sample's range and filtered at the edges of blocks, none of which is here.
 //!
 //! # Units
 //!
@@ -49,10 +60,10 @@
 //! # State, threads, memory
 //!
 //! There is no state to set up or to keep: no writable global, no allocation, no lock. A call depends on its arguments
-//! alone, and calls may run on any threads at the same time. A call takes at most 16 KB of stack in `transform`, 14 KB
-//! in `quantise` and 20 KB in `sub_block` (measured by `host/include/stack.c`). The crate is `no_std`; the archive asks
-//! for `memcpy` and `memset` and nothing else, rounds lambda in the floating-point mode that it finds, which must be to
-//! nearest, and is for 64-bit targets only.
+//! alone, and calls may run on any threads at the same time. A call takes at most 16 KB of stack in `transform` and in
+//! `inverse`, 14 KB in `quantise`, 20 KB in `sub_block` and 1 KB in `scale_back` (measured by `host/include/stack.c`).
+//! The crate is `no_std`; the archive asks for `memcpy` and `memset` and nothing else, rounds lambda in the
+//! floating-point mode that it finds, which must be to nearest, and is for 64-bit targets only.
 
 #![no_std]
 #![deny(missing_docs)]
@@ -83,7 +94,7 @@ struct Readme;
 struct Hosting;
 
 /// The version of the archive that this crate is for: major·10000 + minor·100 + patch.
-pub const VERSION: u32 = 300;
+pub const VERSION: u32 = 400;
 
 /// The version of the archive that was linked. A host compares it with [`VERSION`] once, at its start: an archive of
 /// another version may read other arguments.
@@ -332,4 +343,50 @@ pub fn sub_block(buffer: &mut [i16], call: &SubBlock) -> Result<[Coded; 3], Refu
         None => Ok([0, 1, 2].map(|k| Coded { count: answer[1 + k] as u32, price: answer[4 + k] })),
         Some(refused) => Err(refused),
     }
+}
+
+/// Scaling back, in place, of the square block of levels at the front of `block`, of side 2^log2_side: the coefficients
+/// that a viewer takes them for. `qp` is what the block was quantised with, the slice's plus 12.
+///
+/// Each level by itself becomes level · s · 2^(QP / 6), plus 2^log2_side, shifted right by 1 + log2_side, clipped to 16
+/// bits; s is 40, 45, 51, 57, 64, 72 by QP mod 6, and QP / 6 is a whole number. That this is so is proved; that the
+/// standard has the same was not looked up.
+///
+/// The coefficients take the levels' place; what lies behind the block is neither read nor changed. Refusals, in this
+/// order: `Side` for a log2 side outside 1..5, `Qp` for one above 63, `Length` for a short buffer; none tells a
+/// component. No level is refused.
+///
+/// ```
+/// let mut block = [3, -1, 4, 1];
+/// assert_eq!(galemosu::scale_back(&mut block, 1, 34), Ok(()));
+/// assert_eq!(block, [1536, -512, 2048, 512]); // a step of QP 34 is 512 here
+/// ```
+pub fn scale_back(block: &mut [i16], log2_side: usize, qp: u32) -> Result<(), Refused> {
+    // SAFETY: the pointer and the length are those of one lent slice; a slice's pointer is not null and is aligned.
+    let number = unsafe { raw::galemosu_scale_back(block.as_mut_ptr(), block.len(), log2_side, qp) };
+    Refusal::of(number).map_or(Ok(()), |refusal| Err(refusal.into()))
+}
+
+/// The inverse transform, in place, of the block of coefficients at the front of `block`: 2^log2_w wide, 2^log2_h high,
+/// by rows.
+///
+/// Residual (y, x) is the sum over all v and u of `T_h[v][y] · T_w[u][x] · coefficient(v, u)`, plus 2^16, shifted right
+/// by 17 and clipped to 16 bits, with the matrices of [`transform`]. That this is so is proved, and that at 2×2 the
+/// inverse of an accepted transform gives the residuals back. At other sides it comes near them and no nearer, since
+/// coefficients are rounded and the matrices are orthogonal only nearly: `host/against-rust back` prints by how much a
+/// sample was off.
+///
+/// The residuals take the coefficients' place; what lies behind the block is neither read nor changed. They are not
+/// held to ±1023, and the guess is not in them. Refusals, in this order: `Side` for a log2 side outside 1..5, `Length`
+/// for a short buffer; none tells a component. No coefficient is refused.
+///
+/// ```
+/// let mut block = [80, -16, -32, 0];
+/// assert_eq!(galemosu::inverse(&mut block, 1, 1), Ok(()));
+/// assert_eq!(block, [1, 2, 3, 4]);
+/// ```
+pub fn inverse(block: &mut [i16], log2_w: usize, log2_h: usize) -> Result<(), Refused> {
+    // SAFETY: the pointer and the length are those of one lent slice; a slice's pointer is not null and is aligned.
+    let number = unsafe { raw::galemosu_inverse(block.as_mut_ptr(), block.len(), log2_w, log2_h) };
+    Refusal::of(number).map_or(Ok(()), |refusal| Err(refusal.into()))
 }

@@ -50,6 +50,12 @@ extern "C" {
     /// Transforms a block of residuals.
     pub fn galemosu_transform(block: *mut i16, len: usize, log2_w: usize, log2_h: usize) -> u32;
 
+    /// Scales the levels of a square block back to coefficients.
+    pub fn galemosu_scale_back(block: *mut i16, len: usize, log2_side: usize, qp: u32) -> u32;
+
+    /// Turns a block of coefficients back into residuals.
+    pub fn galemosu_inverse(block: *mut i16, len: usize, log2_w: usize, log2_h: usize) -> u32;
+
     /// Transforms and quantises three components; `answer` is component, counts of Y, U, V, prices of Y, U, V.
     pub fn galemosu_sub_block(
         buffer: *mut i16,

@@ -117,7 +117,8 @@ impl Display for Component {
 pub struct Refused {
     /// Why.
     pub refusal: Refusal,
-    /// The component whose fault it is, where it is one's: not of sides, costs and lengths, nor in the transform.
+    /// The component whose fault it is, where it is one's: not of sides, costs and lengths, nor in the transform,
+    /// scaling back and the inverse, which work on whatever component it is.
     pub component: Option<Component>,
 }
 
@@ -148,7 +149,7 @@ impl Display for Refused {
 
 impl Error for Refused {}
 
-/// The transform's refusals belong to no component.
+/// What the transform, scaling back and the inverse refuse belongs to no component.
 impl From<Refusal> for Refused {
     fn from(refusal: Refusal) -> Refused {
         Refused { refusal, component: None }

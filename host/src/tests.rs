@@ -26,7 +26,7 @@ fn one_version_in_archive_header_crate_and_manifest() {
     let defined = header.lines().find_map(|line| line.strip_prefix("#define GALEMOSU_VERSION ")).unwrap();
     assert_eq!([version(), of(defined), manifest], [VERSION; 3]);
     assert!(header.starts_with(&format!(
-        "/* The proved transform and quantiser of an EVC recorder: libgalemosu.a, version {}.\n",
+        "/* The proved transform and quantiser of an EVC recorder, and their way back: libgalemosu.a, version {}.\n",
         env!("CARGO_PKG_VERSION")
     )));
 }
@@ -458,4 +458,173 @@ fn calls_on_many_threads() {
             scope.spawn(|| (0..1000).for_each(|_| assert_eq!(coded(), alone)));
         }
     });
+}
+
+// ---- the way back
+
+/// T_N[k][n] of N = 2^log2, by document 01's rule.
+fn entry(log2: usize, k: usize, n: usize) -> i64 {
+    const C: [i64; 32] = [
+        64, 90, 90, 90, 89, 88, 87, 85, 84, 82, 80, 78, 75, 73, 70, 67, 64, 61, 57, 54, 50, 47, 43, 39, 35, 30, 26, 22,
+        18, 13, 9, 4,
+    ];
+    let k = k << (5 - log2);
+    let a = match (2 * n + 1) * k % 128 {
+        a if a > 64 => 128 - a,
+        a => a,
+    };
+    match a {
+        _ if k == 0 => 64,
+        0..32 => C[a],
+        _ => -C[64 - a],
+    }
+}
+
+fn clipped(value: i64) -> i16 {
+    value.clamp(-32768, 32767) as i16
+}
+
+const SHAPES: [(usize, usize); 25] = {
+    let (mut shapes, mut i) = ([(0, 0); 25], 0);
+    while i < 25 {
+        shapes[i] = (1 + i % 5, 1 + i / 5);
+        i += 1;
+    }
+    shapes
+};
+
+#[test]
+fn levels_scaled_back() {
+    let levels = [0, 1, -1, 2, 3, -7, 100, -1000, 32767, -32767, -32768];
+    for log2 in 1..=5 {
+        for qp in 0..64 {
+            let held: Vec<i16> = levels.iter().copied().cycle().take((1 << (2 * log2)) + 3).collect();
+            let mut block = held.clone();
+            assert_eq!(scale_back(&mut block, log2, qp), Ok(()));
+            let factor = [40, 45, 51, 57, 64, 72][qp as usize % 6] << (qp / 6);
+            let (scaled, surplus) = block.split_at(1 << (2 * log2));
+            for (coefficient, level) in scaled.iter().zip(&held) {
+                let right = (i64::from(*level) * factor + (1 << log2)) >> (1 + log2);
+                assert_eq!(*coefficient, clipped(right), "side 2^{log2}, QP {qp}, level {level}");
+            }
+            assert_eq!(surplus, &held[1 << (2 * log2)..]);
+        }
+    }
+}
+
+#[test]
+fn a_large_coefficient_is_clipped_and_no_level_refused() {
+    let mut block = [32767, -32768, 2, -2];
+    assert_eq!(scale_back(&mut block, 1, 63), Ok(()));
+    assert_eq!(block, [32767, -32768, 29184, -29184]);
+    for log2 in 1..=5 {
+        for (level, coefficient) in [(32767, 32767), (-32768, -32768)] {
+            let mut block = vec![level; 1024];
+            assert_eq!(scale_back(&mut block, log2, 63), Ok(()));
+            assert!(block[..1 << (2 * log2)].iter().all(|c| *c == coefficient));
+        }
+    }
+}
+
+/// Each pattern alone, of all shapes: coefficient (v, u) is T_h[v][y]·T_w[u][x] at (y, x), with the shape's width along
+/// the row.
+#[test]
+fn the_inverse_of_one_coefficient() {
+    for (log2_w, log2_h) in SHAPES {
+        let (w, n) = (1 << log2_w, 1 << (log2_w + log2_h));
+        for place in (0..n).filter(|place| place % 7 == 1 || *place < 4) {
+            for value in [1, -90, 2047, 32767, -32768] {
+                let mut block = vec![0; n + 2];
+                (block[place], block[n], block[n + 1]) = (value, 77, -32768);
+                assert_eq!(inverse(&mut block, log2_w, log2_h), Ok(()));
+                let right = |i: usize| {
+                    let (along, down) = (entry(log2_w, place % w, i % w), entry(log2_h, place / w, i / w));
+                    clipped((along * down * i64::from(value) + (1 << 16)) >> 17)
+                };
+                assert!((0..n).all(|i| block[i] == right(i)), "{w} wide, {n} places: {value} at {place}");
+                assert_eq!(block[n..], [77, -32768]);
+            }
+        }
+    }
+}
+
+/// All coefficients as large as they can be, with the signs that make one sample largest or smallest.
+#[test]
+fn a_large_residual_is_clipped_and_no_coefficient_refused() {
+    for (log2_w, log2_h) in SHAPES {
+        let (w, n) = (1 << log2_w, 1usize << (log2_w + log2_h));
+        let largest = |sample: usize, sign: i64| {
+            let pattern = |i: usize| sign * entry(log2_w, i % w, sample % w) * entry(log2_h, i / w, sample / w);
+            let mut block: Vec<i16> = (0..n).map(|i| if pattern(i) > 0 { 32767 } else { -32768 }).collect();
+            let sum: i64 = (0..n).map(|i| sign * pattern(i) * i64::from(block[i])).sum();
+            assert_eq!(inverse(&mut block, log2_w, log2_h), Ok(()));
+            (block[sample], clipped((sum + (1 << 16)) >> 17))
+        };
+        for sample in [0, n / 3, n - 1] {
+            for sign in [1, -1] {
+                let (residual, right) = largest(sample, sign);
+                assert_eq!(residual, right);
+                assert_eq!(residual == 32767 || residual == -32768, n >= 64, "{w} wide, {n} places: {residual}");
+            }
+        }
+    }
+}
+
+#[test]
+fn at_side_2_the_way_back_is_exact() {
+    let values = [-1023, -1022, -511, -3, -1, 0, 1, 2, 700, 1023];
+    for i in 0..10_000 {
+        let held = [1, 10, 100, 1000].map(|digit| values[i / digit % 10]);
+        let mut block = held;
+        transform(&mut block, 1, 1).unwrap();
+        inverse(&mut block, 1, 1).unwrap();
+        assert_eq!(block, held);
+    }
+}
+
+/// With the finest steps a block comes back but for roundings: the calls undo one another, at every side.
+#[test]
+fn the_way_there_and_back() {
+    for log2 in 1..=5 {
+        let held: Vec<i16> = (0..1 << (2 * log2)).map(|i| (i * 37 % 41 - 20) as i16).collect();
+        let mut block = held.clone();
+        transform(&mut block, log2, log2).unwrap();
+        quantise(&mut block, &intra(Component::Y, log2, Settings { qp: 0, lambda: 0.0 }, &FLAT)).unwrap();
+        scale_back(&mut block, log2, 0).unwrap();
+        inverse(&mut block, log2, log2).unwrap();
+        let most = block.iter().zip(&held).map(|(shown, true_)| (shown - true_).abs()).max().unwrap();
+        assert!(most <= 2, "side 2^{log2}: {most}");
+    }
+}
+
+#[test]
+fn the_way_back_refuses_in_order_and_leaves_the_block() {
+    let held = [-32768, 32767, 5];
+    let mut block = held;
+    let told = |refusal| Err(Refused { refusal, component: None });
+    for side in [0, 6, 64, usize::MAX] {
+        assert_eq!(scale_back(&mut block, side, 64), told(Refusal::Side));
+        assert_eq!(inverse(&mut block, side, 1), told(Refusal::Side));
+        assert_eq!(inverse(&mut block, 5, side), told(Refusal::Side));
+    }
+    for qp in [64, 255, 256, u32::MAX] {
+        assert_eq!(scale_back(&mut block, 1, qp), told(Refusal::Qp));
+    }
+    for side in 1..=5 {
+        assert_eq!(scale_back(&mut block, side, 63), told(Refusal::Length));
+        assert_eq!(inverse(&mut block, side, 1), told(Refusal::Length));
+        assert_eq!(inverse(&mut block, 1, side), told(Refusal::Length));
+    }
+    assert_eq!(scale_back(&mut [], 1, 0), told(Refusal::Length));
+    assert_eq!(inverse(&mut [], 1, 1), told(Refusal::Length));
+    assert_eq!(block, held);
+    let refused = scale_back(&mut block, 1, 64).unwrap_err();
+    assert_eq!(refused.to_string(), "refused with 2: QP is above 63");
+    // one place too few
+    for (log2_w, log2_h) in SHAPES {
+        let held = vec![7; (1 << (log2_w + log2_h)) - 1];
+        let mut block = held.clone();
+        assert_eq!(inverse(&mut block, log2_w, log2_h), told(Refusal::Length));
+        assert_eq!(block, held);
+    }
 }

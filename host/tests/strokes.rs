@@ -1,13 +1,14 @@
 //! What a viewer can see of a stroke, in samples: the figures of docs/ANSWER.md, each looked for in that page.
 //!
-//! A block is coded by the library and decoded by the formulas of document 02's ticket 6, worked out here: scaling
-//! back, then the double sum with the matrix of document 01's rule, rounded once. All is luma of an intra-coded block
-//! in an intra slice, every cost entry 32768. What is shown is the guess plus what was decoded, so that the error of a
-//! sample is the decoded residual less the true one: below 0 it is darker than the camera saw it.
+//! A block is coded by the library and decoded by it, and each decoded block is held against the formulas of document
+//! 02's ticket 6, worked out here: scaling back, then the double sum with the matrix of document 01's rule, rounded
+//! once. All is luma of an intra-coded block in an intra slice, every cost entry 32768. What is shown is the guess plus
+//! what was decoded, so that the error of a sample is the decoded residual less the true one: below 0 it is darker than
+//! the camera saw it.
 //!
 //!     cargo test --test strokes -- --nocapture     prints the tables
 
-use galemosu::{quantise, transform, Coded, Component, Costs, Mode, Quantise, Settings};
+use galemosu::{inverse, quantise, scale_back, transform, Coded, Component, Costs, Mode, Quantise, Settings};
 
 const PAGE: &str = include_str!("../../docs/ANSWER.md");
 const COSTS: Costs = Costs::equal(Costs::BIT);
@@ -39,8 +40,18 @@ fn clipped(value: i64) -> i64 {
     value.clamp(-32768, 32767)
 }
 
-/// The residuals that a viewer works out of the levels of a square block.
+/// The residuals that a viewer works out of the levels of a square block, by the library; the formulas give the same.
 fn decoded(levels: &[i16], log2: usize, qp: u32) -> Vec<i64> {
+    let mut block = levels.to_vec();
+    scale_back(&mut block, log2, qp).expect("levels of a square block");
+    inverse(&mut block, log2, log2).expect("its coefficients");
+    let residuals: Vec<i64> = block.into_iter().map(i64::from).collect();
+    assert_eq!(residuals, by_formula(levels, log2, qp), "side 2^{log2}, QP {qp}: {levels:?}");
+    residuals
+}
+
+/// The same by the formulas.
+fn by_formula(levels: &[i16], log2: usize, qp: u32) -> Vec<i64> {
     let side = 1 << log2;
     let scale = [40, 45, 51, 57, 64, 72][qp as usize % 6] << (qp / 6);
     let back = |level: i16| clipped((level as i64 * scale + (1 << log2)) >> (1 + log2));

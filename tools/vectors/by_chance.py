@@ -1,7 +1,8 @@
-"""Requests drawn from fixed seeds: every shape, QP, component and flag, with blocks and tables of many kinds;
-those of the second mode come last. Most are small; of side 32 there are a few dozen. About one in seven is refused."""
+"""Requests drawn from fixed seeds: every shape, QP, component and flag, with blocks and tables of many kinds; those of
+the second mode come next to last, those of the viewer's half last. Most are small; of side 32 there are a few dozen.
+About one in seven is refused."""
 import math
-from vectors.lines import BELOW_HALF, CODED, SLICE, least, quantise, subblock, transform
+from vectors.lines import BELOW_HALF, CODED, SLICE, inverse, least, quantise, scaleback, subblock, transform
 
 SCALES = [26214, 23302, 20560, 18396, 16384, 14564]
 NANS = ["7ff8000000000000", "fff8000000000000", "7ff0000000000001", "ffffffffffffffff"]
@@ -317,12 +318,62 @@ def second_mode(r):
         yield least(line)
 
 
+def viewers_spectrum(r, n):
+    """Many small and a few large ones, as they are read from a stream."""
+    return [r.of((r.between(-3, 3), 0, 0, r.between(-40, 40), r.between(-500, 500))) for _ in range(n)]
+
+
+def viewers_samples(r, n):
+    """Levels or coefficients: of any 16 bits, small, few, at their limits, or falling off."""
+    kind = r.below(5)
+    if kind == 0:
+        return [r.between(-32768, 32767) for _ in range(n)]
+    if kind == 1:
+        return [r.between(-20, 20) for _ in range(n)]
+    if kind == 2:
+        return [r.between(-32768, 32767) if r.once_in(8) else 0 for _ in range(n)]
+    if kind == 3:
+        return [r.of((-32768, 32767, 0, 1, -1)) for _ in range(n)]
+    return viewers_spectrum(r, n)
+
+
+def a_scaleback(r, turn, log2):
+    qp, levels = turn % 64, viewers_samples(r, 1 << 2 * log2) + surplus(r)
+    if r.once_in(8):
+        fault, n = r.below(4), 1 << 2 * log2
+        log2 = r.of((0, 6, 32 + log2, 64 + log2)) if fault in (0, 3) else log2
+        qp = r.of((64, 70, 256 + qp)) if fault in (1, 3) else qp
+        levels = levels[:r.below(n)] if fault in (2, 3) else levels
+    return scaleback(levels, log2, qp)
+
+
+def an_inverse(r, lw, lh):
+    n = 1 << lw + lh
+    block = viewers_samples(r, n) + surplus(r)
+    if r.once_in(8):
+        fault = r.below(3)
+        block = block[:r.below(n)] if fault != 0 else block
+        lw, lh = r.of(((0, lh), (lw, 0), (6, lh), (lw, 6), (lw + 32, lh), (lh, 64 + lw))) if fault != 1 else (lw, lh)
+    return inverse(block, lw, lh)
+
+
+def viewers_half(r):
+    """Both calls of it."""
+    for turn, log2 in enumerate(log2 for log2, count in SCALEBACKS.items() for _ in range(count)):
+        yield a_scaleback(r, turn, log2)
+    for lw in range(1, 6):
+        for lh in range(1, 6):
+            yield from (an_inverse(r, lw, lh) for _ in range(INVERSES[lw + lh]))
+
+
 # how many of each side
 TRANSFORMS = {2: 26, 3: 22, 4: 18, 5: 13, 6: 11, 7: 8, 8: 7, 9: 6, 10: 8}
 QUANTISES = {1: 400, 2: 380, 3: 230, 4: 80, 5: 40}
 SUBBLOCKS = {2: 380, 3: 240, 4: 80, 5: 30}
 LEAST_QUANTISES = {1: 90, 2: 90, 3: 60, 4: 24, 5: 12}
 LEAST_SUBBLOCKS = {2: 80, 3: 50, 4: 16, 5: 6}
+SCALEBACKS = {1: 96, 2: 80, 3: 64, 4: 24, 5: 10}
+INVERSES = {2: 26, 3: 20, 4: 16, 5: 12, 6: 10, 7: 8, 8: 6, 9: 5, 10: 6}
 
 
 def requests():
@@ -337,4 +388,5 @@ def requests():
             for _ in range(count):
                 lines.append(one(r, turn, log2))
                 turn += 1
-    return lines + list(late(r)) + list(even_cuts(r, 60)) + list(second_mode(Random(0xd1342543de82ef95)))
+    lines += [*late(r), *even_cuts(r, 60), *second_mode(Random(0xd1342543de82ef95))]
+    return lines + list(viewers_half(Random(0x2545f4914f6cdd1d)))

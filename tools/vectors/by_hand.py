@@ -2,8 +2,8 @@
 is a function that gives lines; SECTIONS is their order. The recorded file has nothing but requests, so that what a line
 is for stands here."""
 import math
-from vectors.lines import (BELOW_HALF, CODED, FLAGS_AT, FLAT, LEAST, SLICE, USUAL, bits, costs, least, put, quantise,
-                           replaced, subblock, transform)
+from vectors.lines import (BELOW_HALF, CODED, FLAGS_AT, FLAT, LEAST, SLICE, USUAL, bits, costs, inverse, least, put,
+                           quantise, replaced, scaleback, subblock, transform)
 
 NAN = "7ff8000000000000"
 # one residual block of each component, none of which vanishes at QP 4
@@ -625,6 +625,11 @@ GOOD = {
     b"quantise": quantise([20, 7, 0, 0]),
     b"subblock": subblock(PICTURE),
 }
+# the same of the viewer's half
+GOOD_VIEWER = {
+    b"scaleback": scaleback([3, -2, 0, 7]),
+    b"inverse": inverse([80, -16, -32, 0]),
+}
 # the same of the second mode
 GOOD_LEAST = {verb: least(GOOD[verb]) for verb in FLAGS_AT}
 # what the words of a request are, after its verb
@@ -632,6 +637,8 @@ FIELDS = {
     b"transform": ["log2"] * 2 + ["n"] + ["sample"] * 4,
     b"quantise": ["component", "log2", "u32", "lambda", "flags"] + ["cost"] * 28 + ["n"] + ["sample"] * 4,
     b"subblock": ["log2", "u32"] + ["u32", "lambda"] * 3 + ["flags"] + ["cost"] * 28 + ["n"] + ["sample"] * 24,
+    b"scaleback": ["log2", "u32", "n"] + ["sample"] * 4,
+    b"inverse": ["log2"] * 2 + ["n"] + ["sample"] * 4,
 }
 # past each type, first one whose low bits would pass
 PAST_TYPE = {
@@ -868,6 +875,212 @@ def longest_requests():
     yield long_request(2 ** 32 - 1)
 
 
+# ---- the viewer's half: scaling back
+
+SCALES_BACK = [40, 45, 51, 57, 64, 72]
+EXTREMES = [-32768, 32767, -32767, 32766]
+
+
+def numbers_of_the_viewers_half():
+    """Document 01's numbers taken back: P1's and P2's coefficients, P3's of either sign, the levels of P5, P6 and P11,
+    and what P5's level comes to."""
+    yield inverse([80, -16, -32, 0])
+    yield from (inverse([c] + [0] * 1023, 5, 5) for c in (32736, -32736))
+    yield inverse([8, 11, 8, 4, 11, 14, 11, 6, 8, 11, 8, 4, 4, 6, 4, 2], 2, 2)
+    yield inverse([-8, -10, -8, -4, -10, -14, -10, -6, -8, -10, -8, -4, -4, -6, -4, -2], 2, 2)
+    yield scaleback([1, 0, 0, 0])
+    yield scaleback([-1, 0, 0, 0])
+    yield scaleback(put(1024, {0: 32767}), 5, 3)
+    yield inverse([16, 0, 0, 0])
+
+
+def a_scale_for_each_qp():
+    """Every QP at sides 2 and 4, and one past; at the others one of each remainder and the last."""
+    for qp in range(65):
+        yield scaleback([1, -1, 3, -7], 1, qp)
+        yield scaleback([0, 1, 2, -2, 5, -5, 9, 11, -13, 21, -33, 64, 100, -100, 127, -129], 2, qp)
+    for log2, qps in ((3, (0, 1, 2, 3, 4, 5, 11, 17, 62, 63)), (4, (0, 1, 8, 9, 22, 35, 63)), (5, (2, 7, 40, 41, 63))):
+        for qp in qps:
+            yield scaleback([(i * i * 7 + 3 * i) % 61 - 30 for i in range(1 << 2 * log2)], log2, qp)
+
+
+def halves_scaled_back():
+    """At low QPs a product lies between two coefficients: every level from -8 to 7, from -32 to 31, and so on to side
+    32. Halves go upward."""
+    for qp in range(12):
+        yield scaleback([-1, 1, -3, 3], 1, qp)
+        yield scaleback(list(range(-8, 8)), 2, qp)
+    for log2 in (3, 4, 5):
+        for qp in range(6):
+            yield scaleback(list(range(-(1 << 2 * log2 - 1), 1 << 2 * log2 - 1)), log2, qp)
+
+
+def scaled_back_to_the_limits():
+    """About the level that comes to 32767, and about the one that comes to -32768: the next ones are clipped. Then the
+    largest levels there are, of either sign, at one place and at all; none is refused."""
+    for qp in range(64):
+        for log2 in (1,) if qp % 7 else (1, 2):
+            n, factor = 1 << 2 * log2, SCALES_BACK[qp % 6] << qp // 6
+            most = min(((2 * 32767 + 1) << log2) // factor, 32766)
+            near = [most, most + 1, -most - 1, -most, most - 1, -most - 2]
+            yield scaleback(near[:4] + [0] * (n - 4), log2, qp)
+            yield scaleback(near[2:6] + [0] * (n - 4), log2, qp)
+            yield scaleback(EXTREMES + [0] * (n - 4), log2, qp)
+    for log2 in range(1, 6):
+        n = 1 << 2 * log2
+        for qp in (0, 5, 29, 63):
+            yield scaleback([-32768] * n, log2, qp)
+            yield scaleback([32767, -32768] * (n // 2), log2, qp)
+            yield scaleback(put(n, {n - 1: -32768, n // 2: 32767}), log2, qp)
+
+
+def refusals_of_scaling_back():
+    """1, 2 and 5: each by itself with its neighbours, and every two and all three at once. A side or a QP whose low
+    bits would pass is refused with the rest; the surplus is neither tested nor changed."""
+    for log2 in (0, 1, 2, 3, 4, 5, 6, 7, 63, 64, 65, 2 ** 32 + 1, 2 ** 32 + 2, 2 ** 63, 2 ** 64 - 1):
+        yield scaleback([5, -6, 7, -8] * (256 if log2 == 5 else 64), log2)
+    for qp in (62, 63, 64, 65, 68, 127, 128, 255, 256, 260, 2 ** 31, 2 ** 32 - 1):
+        yield scaleback([5, -6, 7, -8], 1, qp)
+    for log2 in range(1, 6):
+        n = 1 << 2 * log2
+        levels = [(29 * i * i + 5 * i) % 17 - 8 for i in range(n)]
+        for buffer in ([], levels[:1], levels[:n - 1], levels, levels + [-32768], levels + EXTREMES + [0, 1, -1]):
+            yield scaleback(buffer, log2, 27)
+    yield from (scaleback(buffer, log2, qp) for buffer, log2, qp in (
+        ([9] * 16, 6, 64), ([9] * 16, 0, 64), ([9] * 16, 2 ** 64 - 1, 2 ** 32 - 1), ([9] * 3, 6, 4), ([], 0, 4),
+        ([9] * 3, 1, 64), ([], 1, 64), ([9] * 15, 2, 255), ([], 6, 64), ([9], 0, 64), ([-32768] * 3, 1, 4),
+        ([-32768] * 3, 1, 64), ([-32768] * 4, 1, 64), ([-32768] * 4, 6, 4), ([-32768] * 3, 6, 64)))
+
+
+# ---- the viewer's half: the inverse transform
+
+SHAPES = [(lw, lh) for lw in range(1, 6) for lh in range(1, 6)]
+
+
+def one_coefficient():
+    """The first alone, in every shape: 16 of it is half a unit, and halves go upward. Then 32767 or -32768 in each
+    place of the first row, and of the first column: what an entry of the matrix is, and no other, shows 16 times. Then
+    some places that lie in neither."""
+    for lw, lh in SHAPES:
+        for c in (16, -16, 15, -17, 48, -48, 32767, -32768):
+            yield inverse(put(1 << lw + lh, {0: c}), lw, lh)
+    for log2 in range(1, 6):
+        side = 1 << log2
+        for k in range(1, side):
+            c = -32768 if k % 3 == 0 else 32767
+            yield inverse(put(2 * side, {k: c}), log2, 1)
+            yield inverse(put(2 * side, {2 * k: c}), 1, log2)
+    for lw, lh in SHAPES:
+        w, h = 1 << lw, 1 << lh
+        for v, u in dict.fromkeys(((1, w - 1), (h - 1, 1), (h // 2, w // 2), (h - 1, w - 1))):
+            yield inverse(put(w * h, {v * w + u: 20000 + 100 * v - 7 * u}), lw, lh)
+
+
+def many_coefficients():
+    """In every shape: all there are at their largest, of one sign and of both in turn; a few of the spectrum; a whole
+    block without a period, small and large; with a surplus."""
+    for lw, lh in SHAPES:
+        w, h = 1 << lw, 1 << lh
+        n = w * h
+        yield inverse([32767] * n, lw, lh)
+        yield inverse([-32768] * n, lw, lh)
+        yield inverse([32767, -32768] * (n // 2), lw, lh)
+        yield inverse([-32768 if (i // w + i % w) % 2 else 32767 for i in range(n)], lw, lh)
+        yield inverse([3000 // (1 + i // w + 2 * (i % w)) * (-1) ** (i * i // 5) for i in range(n)], lw, lh)
+        yield inverse([(i * i * 37 + 11 * i + 5) % 97 - 48 for i in range(n)], lw, lh)
+        yield inverse([(i * i * 7919 + 104729 * i) % 65536 - 32768 for i in range(n)] + EXTREMES + [7], lw, lh)
+
+
+def clipped_residuals():
+    """Coefficients of the signs that one residual's factors have: it is as large as can be. In blocks of 64 places and
+    more it is clipped; in smaller ones none can be. By the first coefficient it comes to 32767, to as much as three
+    more and one less; and all of it once more with the other sign."""
+    for (lw, lh), (y, x) in (((3, 3), (0, 0)), ((4, 2), (3, 15)), ((5, 1), (0, 0)), ((1, 5), (31, 1)), ((4, 3), (2, 9)),
+                             ((4, 4), (7, 8)), ((5, 5), (0, 31)), ((2, 2), (1, 1)), ((3, 2), (0, 7))):
+        w, n = 1 << lw, 1 << lw + lh
+        factors = [entry(1 << lh, i // w, y) * entry(w, i % w, x) for i in range(n)]
+        for most in (32767, 16384):
+            yield inverse([most if f > 0 else -most for f in factors], lw, lh)
+            yield inverse([-most if f > 0 else most for f in factors], lw, lh)
+        others = sum(abs(f) for f in factors[1:])
+        if others * 32767 < 32767 << 17:
+            continue
+        for sign in (1, -1):
+            for residual in (32766, 32767, 32768, 32769, 32770):
+                a = (residual << 17) // others
+                left = (residual << 17) - a * others
+                block = [sign * (a if f > 0 else -a) for f in factors]
+                block[0] = sign * (left // 4096)
+                yield inverse(block, lw, lh)
+
+
+def entry(side, k, n):
+    """Of a matrix: document 01's cosine, whose nearest whole numbers its entries are."""
+    return round(64 * math.sqrt(2) * math.cos(math.pi * k * (2 * n + 1) / (2 * side))) if k else 64
+
+
+def side_2_restored():
+    """What the transform makes of residuals of side 2, eight times their sums and differences: the residuals come out
+    again."""
+    for r in ([1023] * 4, [-1023] * 4, [1023, -1023, 1023, -1023], [1023, 1023, -1023, -1023],
+              [-1023, 1023, 1023, -1023], [1023, 0, 0, 0], [0, 0, 0, -1023], [1, 0, 0, 0], [0, -1, 0, 0], [0, 0, 1, 0],
+              [1, 2, 3, 4], [-4, 3, -2, 1], [511, -512, 7, 1000], [-1, -1, -1, -1], [0, 0, 0, 0]):
+        a, b, c, d = r
+        yield inverse([8 * t for t in (a + b + c + d, a - b + c - d, a + b - c - d, a - b - c + d)])
+
+
+def refusals_of_the_inverse():
+    """1 and 5: each by itself with its neighbours, both sides wrong, and both refusals at once. Sides whose low bits or
+    whose sum would pass are refused with the rest; no sample is refused, in the block or behind it."""
+    for log2 in (0, 1, 2, 5, 6, 7, 63, 64, 65, 2 ** 32 + 1, 2 ** 32 + 2, 2 ** 63, 2 ** 64 - 1):
+        yield inverse([7, -9] * 64, log2, 1)
+        yield inverse([7, -9] * 64, 1, log2)
+        yield inverse([7, -9] * 8, log2, log2)
+    yield inverse([1, 2, 3, 4], 2 ** 64 - 1, 3)
+    yield inverse([1, 2], 1, 0)
+    for lw, lh in ((1, 1), (2, 1), (1, 2), (2, 2), (3, 1), (1, 5), (5, 1)):
+        n = 1 << lw + lh
+        block = [(37 * i * i + 11 * i) % 401 - 200 for i in range(n)]
+        for buffer in ([], block[:1], block[:n - 1], block, block + [1024], block + [-32768], block + EXTREMES):
+            yield inverse(buffer, lw, lh)
+    yield from (inverse(buffer, lw, lh) for buffer, lw, lh in (
+        ([], 0, 0), ([9], 0, 1), ([9], 1, 6), ([9] * 3, 6, 6), ([-32768] * 3, 1, 1), ([-32768] * 3, 0, 1),
+        ([-32768] * 4, 1, 6), ([], 6, 1), ([9] * 7, 2, 1), ([9] * 7, 1, 2)))
+
+
+def a_picture_decoded():
+    """What a coded picture comes to: levels scaled back, in each component's QP, and then the inverse transform."""
+    y = put(256, {0: 31, 1: -7, 2: 2, 16: 9, 17: -1, 18: 1, 32: -3, 48: 1, 5: 1, 80: -1})
+    for qp in (22, 27, 34, 45):
+        yield scaleback(y, 4, qp)
+        scale = SCALES_BACK[qp % 6] << qp // 6
+        yield inverse([(c * scale + 16) >> 5 for c in y], 4, 4)
+        yield inverse([(c * scale + 16) >> 5 for c in y], 5, 3)
+        yield inverse([(c * scale + 16) >> 5 for c in y], 3, 5)
+
+
+def malformed_in_the_viewers_half():
+    """The same as of the other verbs; words that look like the two; N of 8192 and 8193; other verbs' fields."""
+    yield from spaces(GOOD_VIEWER)
+    yield from like_a_verb(GOOD_VIEWER)
+    for verb in (b"scale", b"scale-back", b"scale_back", b"scale back", b"scaleBack", b"backscale", b"rescale",
+                 b"dequantise", b"scaleback4", b"scaleback-least"):
+        yield replaced(GOOD_VIEWER[b"scaleback"], 0, verb)
+    for verb in (b"inverse-transform", b"inverse_transform", b"inverse transform", b"transform inverse",
+                 b"inversetrans", b"itransform", b"inv", b"inverse2", b"residuals", b"inverse-least"):
+        yield replaced(GOOD_VIEWER[b"inverse"], 0, verb)
+    yield from like_a_number(GOOD_VIEWER)
+    yield from missing_and_more(GOOD_VIEWER)
+    for verb in GOOD_VIEWER:
+        for other in GOOD:
+            yield verb + b" " + GOOD[other].split(b" ", 1)[1]
+            yield other + b" " + GOOD_VIEWER[verb].split(b" ", 1)[1]
+    for n in (8191, 8192, 8193):
+        yield scaleback([3, -2, 0, 7] + [5] * (n - 4))
+        yield inverse([80, -16, -32, 0] + [-32768] * (n - 4))
+    yield from GOOD_VIEWER.values()
+
+
 def last():
     """The file's last line, which has no newline behind it."""
     return quantise([200, 100, 60, 33, -32768], component=1, costs=MIXED)
@@ -884,6 +1097,9 @@ SECTIONS = [
     where_the_walk_is_dearer, ties_of_the_second_mode,
     levels_at_equal_price, close_prices, malformed_in_the_second_mode,
     bits_of_flags, flags_not_read, two_flags, verbs_with_least, longest_requests,
+    numbers_of_the_viewers_half, a_scale_for_each_qp, halves_scaled_back, scaled_back_to_the_limits,
+    refusals_of_scaling_back, one_coefficient, many_coefficients, clipped_residuals, side_2_restored,
+    refusals_of_the_inverse, a_picture_decoded, malformed_in_the_viewers_half,
 ]
 
 

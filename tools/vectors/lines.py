@@ -35,6 +35,19 @@ def subblock(residuals, log2=2, run=7, qp=(4, 4, 4), d=(USUAL,) * 3, flags=USUAL
     return f"subblock {log2} {run} {settings} {flags} {' '.join(map(str, costs))} {numbers(residuals, n)}".encode()
 
 
+def scaleback(levels, log2=1, qp=4, n=None):
+    return f"scaleback {log2} {qp} {numbers(levels, n)}".encode()
+
+
+def inverse(coefficients, lw=1, lh=1, n=None):
+    return f"inverse {lw} {lh} {numbers(coefficients, n)}".encode()
+
+
+def is_viewers(line):
+    """A request of the viewer's half."""
+    return line.split(b" ")[0] in (b"scaleback", b"inverse")
+
+
 def replaced(line, at, word):
     words = line.split(b" ")
     return b" ".join(words[:at] + [word] + words[at + 1:])

@@ -46,12 +46,12 @@ module _ (f : ℤ → ℤ → ℤ) (p q : ℤ) (hp : natAbs p ≤ 16760832) (hq 
       ≡ pos 64 *ℤ f p q
   sixty-four-is = let a = one in let b = other in let c = both in let d = times in simp toZ-ofZ
 
-sum-is : (x : List ℤ) → pos 64 *ℤ (at x 0 +ℤ at x 1) ≡ lineAt matrix 2 x 0
+pub sum-is : (x : List ℤ) → pos 64 *ℤ (at x 0 +ℤ at x 1) ≡ lineAt matrix 2 x 0
 unfolding lineAt matrix
 sum-is x = dist-left (pos 64) (at x 0) (at x 1)
     ∙ ap (λ (z : ℤ). z +ℤ pos 64 *ℤ at x 1) (sym (+ℤ-idl (pos 64 *ℤ at x 0)))
 
-difference-is : (x : List ℤ) → pos 64 *ℤ (at x 0 -ℤ at x 1) ≡ lineAt matrix 2 x 1
+pub difference-is : (x : List ℤ) → pos 64 *ℤ (at x 0 -ℤ at x 1) ≡ lineAt matrix 2 x 1
 unfolding lineAt matrix
 difference-is x =
     dist-left (pos 64) (at x 0) (negℤ (at x 1))

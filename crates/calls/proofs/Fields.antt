@@ -11,7 +11,7 @@ use lib.ListN.{length, getD, take}
 use lib.Seq.{getD-take, take-take}
 use Rattle.replies.specs.declared.Reply.{Reply}
 use Rattle.verbs.specs.declared.Verb.{Verb}
-use Rattle.verbs.specs.declared.Verb.the-variants.{Transform, Quantise, SubBlock}
+use Rattle.verbs.specs.declared.Verb.the-variants.{Transform, Quantise, SubBlock, ScaleBack, Inverse}
 use Rattle.requests.specs.Request.{kindsOf, Limited}
 use Rattle.calls.specs.Calls.{costsFrom, answered}
 use Rattle.calls.specs.Inner.Replied.{Short, Replied}
@@ -50,6 +50,8 @@ by-own-fields SubBlock f samples =
       field 8 (omega arith),
       costs-in-front 9 f,
     )
+by-own-fields ScaleBack f samples = rw (getD-take 2 f 0 0 (omega arith), getD-take 2 f 1 0 (omega arith))
+by-own-fields Inverse f samples = rw (getD-take 2 f 0 0 (omega arith), getD-take 2 f 1 0 (omega arith))
 
 -- where the verb is known
 module _ (v : Verb) (f : List ℕ) where
@@ -73,3 +75,6 @@ module _ (v : Verb) (f : List ℕ) where
         short 6 (omega arith),
         short 8 (omega arith),
       )
+
+  pub scale-back-short : v ≡ ScaleBack → Limited (kindsOf v) f → Short f 1
+  scale-back-short e h = subst (λ (w : Verb). Limited (kindsOf w) f) e h 1 (omega arith)

@@ -1,5 +1,5 @@
 -- A reply made by what a call left is the answer line that shows it: by the result of the call, its answer and its
--- buffer, of any call and for each of the three.
+-- buffer, of any call; then for those that answer a verdict alone, and for each of the two others.
 -- Assumes nothing.
 use mathlib.Core.Path.{_≡_, refl}
 use mathlib.Core.Bool.{Bool, true, false, cond}
@@ -11,12 +11,12 @@ use lib.IntN.{ℤ}
 use lib.ListN.{length, getD, take}
 use Rattle.replies.specs.declared.Reply.{Reply}
 use Rattle.replies.specs.Reply.{replyText}
-use Rattle.transform.specs.Call.{Trans}
+use Rattle.refusals.specs.Faults.{Outcome}
 use Rattle.coding.specs.Block.{Quant}
 use Rattle.coding.specs.Call.{quantAnswer, quantBuffer}
 use Rattle.components.specs.Call.{SubBlock, subBlockAnswer, subBlockBuffer}
-use Rattle.surface.specs.Surface.{resultOf, TransLeft, QuantLeft, ThreeLeft}
-use Rattle.calls.specs.Calls.{shown, transText, quantText, threeText}
+use Rattle.surface.specs.Surface.{resultOf, VerdictLeft, QuantLeft, ThreeLeft}
+use Rattle.calls.specs.Calls.{shown, verdictText, quantText, threeText}
 use Rattle.calls.specs.Inner.Replied.{replyBy, Replied}
 
 module _ (result component count : ℕ) (numbers : List ℕ) (before after : List ℤ) where
@@ -42,8 +42,9 @@ module _ (result component count : ℕ) (numbers : List ℕ) (before after : Lis
   replied q text e h k s = rw (e, ← s) (replied-by h k)
 
 -- ---- what a call left, shown
-pub trans-shown : (t : Trans) (r : ℕ) (block : List ℤ) → TransLeft t r block → shown r 0 [] block ≡ transText t
-trans-shown t r block h = rw (h .result, h .left)
+pub verdict-shown : (verdict : Outcome Unit) (buffer : List ℤ) (r : ℕ) (block : List ℤ)
+    → VerdictLeft verdict buffer r block → shown r 0 [] block ≡ verdictText verdict buffer
+verdict-shown verdict buffer r block h = rw (h .result, h .left)
 
 pub quant-shown : (c : Quant) (r : ℕ) (answer : List ℕ) (block : List ℤ) → QuantLeft c r answer block
     → shown r (getD answer 0 0) (getD answer 1 0 ∷ getD answer 2 0 ∷ []) block ≡ quantText c

@@ -9,8 +9,11 @@ use lib.IntN.{ℤ}
 use lib.ListN.{getD, take, drop}
 use Rattle.refusals.specs.declared.Component.{Component}
 use Rattle.refusals.specs.declared.Component.the-variants.{Y, U, «V»}
+use Rattle.refusals.specs.Faults.{Outcome}
 use Rattle.transform.specs.Call.{Trans, transVerdict, transBuffer}
 use Rattle.transform.specs.Call as trans
+use Rattle.decoding.specs.Call.{ScaleBack, levelsLent, scaleVerdict, scaleBuffer}
+use Rattle.decoding.specs.Call.{Inverse, coefficientsLent, inverseVerdict, inverseBuffer}
 use Rattle.coding.specs.Block.{Quant}
 use Rattle.coding.specs.Call.{quantAnswer, quantBuffer}
 use Rattle.components.specs.Call.{SubBlock, subBlockAnswer, subBlockBuffer}
@@ -52,15 +55,32 @@ abbrev pub threeBy : List ℕ → List ℤ → SubBlock
 threeBy f samples =
     threeAsked samples (getD f 0 0) (qpsBy f) (lambdasBy f) (getD f 1 0) (getD f 8 0) (costsFrom 9 f)
 
+-- LOG2 QP
+abbrev pub scaleBy : List ℕ → List ℤ → ScaleBack
+scaleBy f samples = levelsLent samples (getD f 0 0) (getD f 1 0)
+
+-- LOG2W LOG2H
+abbrev pub inverseBy : List ℕ → List ℤ → Inverse
+inverseBy f samples = coefficientsLent samples (getD f 0 0) (getD f 1 0)
+
 -- ---- the answer line
 -- where the result is 0, `accepted` and numbers of the answer; else `refused`, the result and the component
 abbrev pub shown : (result component : ℕ) → (numbers : List ℕ) → List ℤ → List ℕ
 shown result component numbers buffer =
     cond (eqb result 0) (replyText true numbers buffer) (replyText false (result ∷ component ∷ []) buffer)
 
--- no number of a transform
+-- no number where a call answers a verdict alone
+abbrev pub verdictText : Outcome Unit → List ℤ → List ℕ
+verdictText verdict buffer = shown (resultOf verdict) 0 [] buffer
+
 abbrev pub transText : Trans → List ℕ
-transText t = shown (resultOf (transVerdict t)) 0 [] (transBuffer t)
+transText t = verdictText (transVerdict t) (transBuffer t)
+
+abbrev pub scaleText : ScaleBack → List ℕ
+scaleText s = verdictText (scaleVerdict s) (scaleBuffer s)
+
+abbrev pub inverseText : Inverse → List ℕ
+inverseText t = verdictText (inverseVerdict t) (inverseBuffer t)
 
 -- the count and the price
 abbrev pub quantText : Quant → List ℕ
@@ -81,3 +101,5 @@ unfolding replyText
 answered verbs.Transform f samples = transText (transBy f samples)
 answered verbs.Quantise f samples = quantText (quantBy f samples)
 answered verbs.SubBlock f samples = threeText (threeBy f samples)
+answered verbs.ScaleBack f samples = scaleText (scaleBy f samples)
+answered verbs.Inverse f samples = inverseText (inverseBy f samples)

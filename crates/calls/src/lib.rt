@@ -1,8 +1,10 @@
 // The calls that requests ask for, made through the exports: the fields of a request as the numbers that cross to C,
 // and what the call left as a reply. The reply's text is the definition's (specs/Calls.antt).
+use galemosu::galemosu_inverse;
 use galemosu::galemosu_quantise_u;
 use galemosu::galemosu_quantise_v;
 use galemosu::galemosu_quantise_y;
+use galemosu::galemosu_scale_back;
 use galemosu::galemosu_sub_block;
 use galemosu::galemosu_transform;
 use numerals::number::double_of;
@@ -14,7 +16,7 @@ ghost use lib.ListN.{length, take, drop};
 ghost use Rattle.requests.specs.Request.{kindsOf, Limited};
 ghost use Rattle.surface.specs.Surface.{quantAsked, QuantLeft};
 ghost use Rattle.calls.specs.Calls.{componentBy, transBy, transText, quantBy, quantText, qpsBy, lambdasBy};
-ghost use Rattle.calls.specs.Calls.{threeBy, threeText, answered};
+ghost use Rattle.calls.specs.Calls.{threeBy, threeText, scaleBy, scaleText, inverseBy, inverseText, answered};
 ghost use Rattle.calls.specs.Inner.Replied.{Short, replyBy, Replied};
 
 fn copy(from: &[u64], to: &mut [u64])
@@ -166,6 +168,24 @@ fn call_sub_block(room: &mut [i16], fields: &[u64]) -> Reply
     )
 }
 
+fn call_scale_back(room: &mut [i16], fields: &[u64]) -> Reply
+    requires { ⌜ Short (now fields) 1 × (length (now fields) ≡ 40) ⌝ }
+    ensures { λ r. ⌜ Replied (scaleText (scaleBy (now (fields .entry)) (now (room .entry))))
+        (now (room .entry)) r (now (room .exit)) ⌝ }
+{
+    let result = galemosu_scale_back(room, fields[0] as usize, fields[1] as u32);
+    reply_by(result, 0, 0, [0, 0, 0, 0, 0, 0])
+}
+
+fn call_inverse(room: &mut [i16], fields: &[u64]) -> Reply
+    requires { ⌜ length (now fields) ≡ 40 ⌝ }
+    ensures { λ r. ⌜ Replied (inverseText (inverseBy (now (fields .entry)) (now (room .entry))))
+        (now (room .entry)) r (now (room .exit)) ⌝ }
+{
+    let result = galemosu_inverse(room, fields[0] as usize, fields[1] as usize);
+    reply_by(result, 0, 0, [0, 0, 0, 0, 0, 0])
+}
+
 // The fields are those of the verb, in their order, each within its limit.
 pub fn call(verb: Verb, room: &mut [i16], fields: &[u64]) -> Reply
     requires { ⌜ Limited (kindsOf verb) (now fields) × (length (now fields) ≡ 40) ⌝ }
@@ -176,5 +196,7 @@ pub fn call(verb: Verb, room: &mut [i16], fields: &[u64]) -> Reply
         Verb::Transform => call_transform(room, fields),
         Verb::Quantise => call_quantise(room, fields),
         Verb::SubBlock => call_sub_block(room, fields),
+        Verb::ScaleBack => call_scale_back(room, fields),
+        Verb::Inverse => call_inverse(room, fields),
     }
 }

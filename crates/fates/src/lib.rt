@@ -78,9 +78,9 @@ impl Tally {
         t
     }
 
-    // The fates of two blocks.
+    // The fates of some blocks and of others.
     pub fn with(self, more: Tally) -> Tally
-        requires { ⌜ Most 4096 self × Most 4096 more ⌝ }
+        requires { ⌜ Most 65536 self × Most 65536 more ⌝ }
         ensures { λ r. ⌜ (r .kept ≡ self .kept + more .kept) × (r .lowered ≡ self .lowered + more .lowered)
             × (r .dropped ≡ self .dropped + more .dropped) × (r .other ≡ self .other + more .other) ⌝ }
     {

@@ -1,21 +1,25 @@
 // The exports for C and Rust, nothing else: each takes whole numbers, f64s, slices and arrays, and answers 0 or a
 // refusal's number. What the numbers ask for, and what is left then, is said once, in `surface`.
 use refusals::Component;
+use wire::inverse;
 use wire::quantise;
+use wire::scale_back;
 use wire::sub_block;
 use wire::transform;
 ghost use mathlib.Core.Path.{_≡_};
 ghost use Rattle.refusals.specs.declared.Component.the-variants.{Y, U, «V»};
 ghost use Rattle.transform.specs.Call.{called};
-ghost use Rattle.surface.specs.Surface.{TransLeft, quantAsked, QuantLeft, threeAsked, ThreeLeft};
+ghost use Rattle.decoding.specs.Call.{levelsLent, coefficientsLent};
+ghost use Rattle.surface.specs.Surface.{TransLeft, ScaleLeft, InverseLeft};
+ghost use Rattle.surface.specs.Surface.{quantAsked, QuantLeft, threeAsked, ThreeLeft};
 
 // Which surface this is: 10000 times the first number of the version, 100 times the second, and the third. The header
 // and the host crate have the same number.
 #[no_mangle]
 pub extern "C" fn galemosu_version() -> u32
-    ensures { λ r. ⌜ r ≡ 300 ⌝ }
+    ensures { λ r. ⌜ r ≡ 400 ⌝ }
 {
-    300
+    400
 }
 
 #[no_mangle]
@@ -116,4 +120,18 @@ pub extern "C" fn galemosu_sub_block(
         (now (costs .entry))) r (now (answer .exit)) (now (buffer .exit)) ⌝ }
 {
     sub_block(buffer, log2_luma, qp, lambda, run, flags, costs, answer)
+}
+
+#[no_mangle]
+pub extern "C" fn galemosu_scale_back(block: &mut [i16], log2_side: usize, qp: u32) -> u32
+    ensures { λ r. ⌜ ScaleLeft (levelsLent (now (block .entry)) «log2_side» qp) r (now (block .exit)) ⌝ }
+{
+    scale_back(block, log2_side, qp)
+}
+
+#[no_mangle]
+pub extern "C" fn galemosu_inverse(block: &mut [i16], log2_w: usize, log2_h: usize) -> u32
+    ensures { λ r. ⌜ InverseLeft (coefficientsLent (now (block .entry)) «log2_w» «log2_h») r (now (block .exit)) ⌝ }
+{
+    inverse(block, log2_w, log2_h)
 }

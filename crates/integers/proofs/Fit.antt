@@ -4,9 +4,10 @@
 use mathlib.Core.Path.{_≡_}
 use Prim.Native.Nat.{ℕ, _+_, _*_, _<_, _≤_, _^_}
 use native.Mathlib.Omega.{arith}
+use lib.Dec.{lit<}
 use lib.IntN.{ℤ, pos, negsuc, natAbs, _+ℤ_, _*ℤ_}
 use lib.Signed.{mag, mag-shr, natAbs-le, shrZ}
-use mir.Syntax.{Width}
+use mir.Syntax.{Width, w16, w32}
 use mir.Val.{SFits, hbits, toZ, ofZ}
 use mir.Facts.{toZ-ofZ}
 use Rattle.integers.proofs.Magnitude.{magnitude-+, magnitude-*}
@@ -26,6 +27,10 @@ fits-within {w} z b h k = record { sfits = omega (arith, mag-magnitude z) }
 -- the magnitude of what was read
 pub magnitude-of : {w : Width} (z : ℤ) → SFits w z → natAbs z ≤ 2 ^ hbits w
 magnitude-of {w} z f = natAbs-le z (f .sfits)
+
+-- what fits 16 bits fits 32
+pub wider : (z : ℤ) → SFits w16 z → SFits w32 z
+wider z f = fits-within z (2 ^ 15) (magnitude-of z f) (lit< tt)
 
 -- a cast between two signed types, both of which have room
 module _ (w w′ : Width) (z : ℤ) (f : SFits w z) (g : SFits w′ z) where

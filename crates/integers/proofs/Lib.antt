@@ -5,12 +5,15 @@ pub mod Fit
 pub mod Sixteen
 pub mod Grid
 pub mod Floor
+pub mod Split
+pub mod Clip
 pub mod Sums
 pub mod Fold
 pub mod Dot
 pub mod Tests
 pub mod Some
 pub mod Fill
+pub mod Replace
 pub mod Order
 pub mod Lists
 pub mod Over

@@ -53,6 +53,12 @@ dist-left m a b =
     ∙ ap (λ (x : ℤ). m *ℤ a +ℤ x) (*ℤ-comm b m)
 
 -- ---- negations
+pub neg-+ : (a b : ℤ) → negℤ (a +ℤ b) ≡ negℤ a +ℤ negℤ b
+neg-+ a b =
+    sym (neg-unique (a +ℤ b) (negℤ a +ℤ negℤ b)
+    (+-middle a b (negℤ a) (negℤ b) ∙ ap (λ (x : ℤ). x +ℤ (b +ℤ negℤ b)) (+ℤ-invr a) ∙ +ℤ-idl (b +ℤ negℤ b)
+    ∙ +ℤ-invr b))
+
 pub neg-* : (a m : ℤ) → negℤ a *ℤ m ≡ negℤ (a *ℤ m)
 neg-* a m =
     neg-unique (a *ℤ m) (negℤ a *ℤ m)

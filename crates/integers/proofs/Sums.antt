@@ -2,7 +2,7 @@
 -- sums, a map that keeps sums, splitting, reversal, exchange. `ints` and `nats` are the two instances.
 -- Assumes nothing.
 use mathlib.Core.Path.{_≡_, refl, sym, _∙_, ap}
-use Prim.Native.Nat.{ℕ, zero, suc, _+_, _-_, _<_}
+use Prim.Native.Nat.{ℕ, zero, suc, _+_, _-_, _*_, _<_}
 use native.Mathlib.Nat.{add-suc, add-zero, add-assoc, add-comm, zero-add}
 use native.Mathlib.Numerals.{add-one}
 use native.Mathlib.Omega.{arith}
@@ -103,6 +103,23 @@ module _ {A : Type 0} {o : Addition A} (l : Lawful o) where
       (sum-reverse h (λ i. f (h + i))
       ∙ sum-ext o h (λ i. f (h + (h - 1 - i))) (λ i. f (h + h - 1 - i)) (λ i k. ap f (omega arith)))
       ∙ sym (sum-plus h f (λ i. f (h + h - 1 - i)))
+
+  -- the terms at even places and those at odd ones
+  pub sum-by-parity : (h : ℕ) (f : ℕ → A)
+      → sum o (h + h) f ≡ o .plus (sum o h (λ k. f (2 * k))) (sum o h (λ k. f (2 * k + 1)))
+  unfolding sum
+  sum-by-parity zero f = sym (l .idl (o .nought))
+  sum-by-parity (suc h) f =
+      let evens = sum o h (λ k. f (2 * k)) in
+      let odds = sum o h (λ k. f (2 * k + 1)) in
+      ap (λ (n : ℕ). sum o n f) (let e : suc h + suc h ≡ suc (suc (h + h)) = omega arith in e)
+      ∙ ap (λ (x : A). o .plus (o .plus x (f (h + h))) (f (suc (h + h)))) (sum-by-parity h f)
+      ∙ l .assoc (o .plus evens odds) (f (h + h)) (f (suc (h + h)))
+      ∙ middle evens odds (f (h + h)) (f (suc (h + h)))
+      ∙ ap (λ (n : ℕ). o .plus (o .plus evens (f n)) (o .plus odds (f (suc (h + h)))))
+      (let e : h + h ≡ 2 * h = omega arith in e)
+      ∙ ap (λ (n : ℕ). o .plus (o .plus evens (f (2 * h))) (o .plus odds (f n)))
+      (let e : suc (h + h) ≡ 2 * h + 1 = omega arith in e)
 
 -- a map from one addition to another that keeps noughts and sums keeps finite sums: a factor, a negation, ..
 module _ {A B : Type 0} (o : Addition A) (p : Addition B) (m : A → B) (at-nought : m (o .nought) ≡ p .nought)

@@ -1,7 +1,8 @@
-// A label's digit, coded block by block as a recorder would code it: each block of 8 by 8 with its levels under it, and
-// what was kept, lowered and dropped of it. The picture comes from standard input, 16 lines of 16 of # + and . each
-// ended by a newline; the words behind the program's name are the QP and lambda in millionths. What is wrong is said on
-// standard error, and nothing of the picture is shown then.
+// A picture, coded block by block as a recorder would code it and shown as the viewer will show it: each block of 8 by
+// 8 as the camera saw it beside what is shown, with its levels under it and what was kept, lowered and dropped; then
+// the whole picture so, and where the two lie farthest apart; and last the picture shown, as a PGM. The picture comes
+// from standard input, as a PGM; the words behind the program's name are the QP and lambda in millionths. What is wrong
+// is said on standard error, and nothing of the picture is shown then.
 use coding::Coded;
 use coding::Coding;
 use coding::Mode;
@@ -12,18 +13,38 @@ use input::Arrival;
 use libc::STDERR_FILENO;
 use libc::STDOUT_FILENO;
 use numerals::number::Natural;
-use page::picture_text;
+use page::grey_row;
+use page::pgm_row;
 use page::put_levels;
-use picture::first_fault;
+use page::put_samples;
+use pgm::Head;
+use pgm::Header;
+use pgm::Samples;
+use pgm::read_header;
+use pgm::take_samples;
+use picture::Size;
+use picture::across;
+use picture::area;
+use picture::by_rows;
+use picture::down;
+use picture::keep;
 use picture::take_block;
 use price::Settings;
 use quantise::quant_nnz;
 use refusals::Component;
-use transform::TransAnswer;
+use refusals::Verdict;
+use residuals::scale_back;
+use residuals::inverse;
+use shown::Worst;
+use shown::block_apart;
+use shown::farthest;
+use shown::views;
 use transform::trans;
 ghost use mathlib.Core.Path.{_≡_};
 ghost use Prim.Native.Nat.{_<_, _≤_};
+ghost use lib.ListN.{length};
 ghost use Rattle.fates.specs.Fate.{Most};
+ghost use Rattle.picture.specs.Picture.{Sides};
 
 // Whether all was written, and the fates of what was shown.
 struct Shown {
@@ -63,7 +84,7 @@ const COSTS: [u64; 28] = [
     14000,
 ];
 
-fn transformed(block: &mut [i16; 64]) -> TransAnswer {
+fn transformed(block: &mut [i16; 64]) -> Verdict {
     trans(block, 3, 3)
 }
 
@@ -84,6 +105,17 @@ fn code(block: &mut [i16; 64], qp: u32, millionths: u64) -> QuantAnswer
     };
     let costs = COSTS;
     quant_nnz(block, &costs, coding)
+}
+
+// What the viewer makes of the levels: the residuals.
+fn decoded(block: &mut [i16; 64], qp: u32) -> bool {
+    let Verdict::Accepted = scale_back(block, 3, qp) else {
+        return false;
+    };
+    let Verdict::Accepted = inverse(block, 3, 3) else {
+        return false;
+    };
+    true
 }
 
 fn put(text: &[u8]) -> bool {
@@ -167,37 +199,129 @@ fn refused(text: &[u8]) -> Shown
     }
 }
 
-fn put_block(at: usize, square: &[u8; 72], levels: &[u8; 456]) -> bool
-    requires { ⌜ at < 4 ⌝ }
+fn put_first(text: &[u8], n: usize) -> bool
+    requires { ⌜ n ≤ length (now text) ⌝ }
 {
-    put(b"\nblock ") && put_number(at as u64 + 1) && put(b"\n") && put(square) && put(levels)
+    put(&text[..n])
 }
 
-fn show_block(picture: &[u8; 272], at: usize, qp: u32, millionths: u64) -> Shown
-    requires { ⌜ (at < 4) × (qp ≤ 63) × (millionths ≤ 8192000000) ⌝ }
+fn put_part(text: &[u8; 1280], n: usize) -> bool
+    requires { ⌜ n ≤ 1280 ⌝ }
+{
+    put_first(text, n)
+}
+
+fn put_block(b: usize, seen: &[u16; 64], view: &[u16; 64]) -> bool
+    requires { ⌜ b < 1024 ⌝ }
+{
+    let mut text = [b' '; 1280];
+    put_samples(&mut text, seen, view);
+    put(b"\nblock ")
+        && put_number(b as u64 + 1)
+        && put(b": camera                               shown\n")
+        && put_part(&text, 680)
+}
+
+fn put_apart(most: u16) -> bool {
+    put(b"largest difference of a sample ") && put_number(most as u64) && put(b"\n")
+}
+
+// What was made of a block, if it was not refused.
+struct Made {
+    ok: bool,
+    tally: Tally,
+    coded: Coded,
+}
+
+fn not_made(text: &[u8]) -> Made
     ensures { λ r. ⌜ Most 64 (r .tally) ⌝ }
 {
-    let square = picture_text(picture, at);
+    let shown = refused(text);
+    let tally = shown.tally;
+    Made {
+        ok: false,
+        tally,
+        coded: Coded { count: 0, price: 0 },
+    }
+}
+
+// Residuals become levels, and these the residuals that the viewer has; the text of the levels is made on the way.
+fn make(block: &mut [i16; 64], levels: &mut [u8; 456], qp: u32, millionths: u64) -> Made
+    requires { ⌜ (qp ≤ 63) × (millionths ≤ 8192000000) ⌝ }
+    ensures { λ r. ⌜ Most 64 (r .tally) ⌝ }
+{
+    let Verdict::Accepted = transformed(block) else {
+        return not_made(b"label: the transform refuses a block\n");
+    };
+    let coefficients = *block;
+    let QuantAnswer::Coded(coded) = code(block, qp, millionths) else {
+        return not_made(b"label: the quantiser refuses a block at this QP and lambda\n");
+    };
+    let tally = put_levels(levels, &coefficients, block, qp);
+    if !decoded(block, qp) {
+        return not_made(b"label: the viewer's half refuses a block\n");
+    }
+    Made {
+        ok: true,
+        tally,
+        coded,
+    }
+}
+
+// What the viewer shows of a block, kept and put on the page beside what the camera saw.
+fn show_views(kept: &mut [u16], size: Size, b: usize, seen: &[u16; 64], block: &[i16; 64]) -> bool
+    requires { ⌜ Sides size × (b < 1024) × (65536 ≤ length (now kept)) ⌝ }
+{
+    let view = views(block);
+    keep(kept, b, &view);
+    let far = block_apart(size, b, seen, &view);
+    put_block(b, seen, &view) && put_apart(far)
+}
+
+fn put_made(levels: &[u8; 456], made: Made) -> bool {
+    let tally = made.tally;
+    let coded = made.coded;
+    put(levels) && put_coded(tally, coded)
+}
+
+fn show_block(
+    camera: &[u16],
+    kept: &mut [u16],
+    size: Size,
+    b: usize,
+    qp: u32,
+    millionths: u64,
+) -> Shown
+    requires { ⌜ Sides size × (b < 1024) × (qp ≤ 63) × (millionths ≤ 8192000000) ⌝ }
+    requires { ⌜ (65536 ≤ length (now camera)) × (65536 ≤ length (now kept)) ⌝ }
+    ensures { λ r. ⌜ Most 64 (r .tally) ⌝ }
+{
+    let seen = take_block(camera, size, b);
+    let mut block = shown::residuals(&seen);
     let mut levels = [b' '; 456];
-    let mut block = take_block(picture, at);
-    let TransAnswer::Accepted = transformed(&mut block) else {
-        return refused(b"label: the transform refuses a block\n");
-    };
-    let coefficients = block;
-    let QuantAnswer::Coded(coded) = code(&mut block, qp, millionths) else {
-        return refused(b"label: the quantiser refuses a block at this QP and lambda\n");
-    };
-    let tally = put_levels(&mut levels, &coefficients, &block, qp);
-    let ok = put_block(at, &square, &levels) && put_coded(tally, coded);
+    let made = make(&mut block, &mut levels, qp, millionths);
+    let tally = made.tally;
+    if !made.ok {
+        return Shown { ok: false, tally };
+    }
+    let ok = show_views(kept, size, b, &seen, &block) && put_made(&levels, made);
     written(ok, tally)
 }
 
-fn put_legend() -> bool {
+fn put_legend(most: u32) -> bool {
     put(
         b"QP is the slice's plus 12; lambda is what a bit may cost, in squared error of samples of 8 bits.\n",
     )
         && put(
-            b"In the picture # is -600, + is -250, . is 120: the camera's sample less the guess, of 10 bits.\n",
+            b"Samples are of 10 bits, 0 (black) to 1023 (white), scaled from the picture's 0 to ",
+        )
+        && put_number(most as u64)
+        && put(b". Coded is the sample\n")
+        && put(
+            b"less a guess, 700 everywhere. Left is what the camera saw, right what the viewer shows of the levels.\n",
+        )
+        && put(
+            b"Where the picture ends inside a block its last column and row are repeated, and not compared.\n",
         )
         && put(
             b"Under a block stand its levels by rows, one for each pattern: the coefficient by its step, to the\n",
@@ -210,14 +334,20 @@ fn put_legend() -> bool {
         )
 }
 
-fn put_head(qp: u32, millionths: u64) -> bool {
-    put(b"A label's digit in four blocks of 8 by 8, coded at QP ")
+fn put_size(size: Size) -> bool {
+    put_number(size.width as u64) && put(b" by ") && put_number(size.height as u64)
+}
+
+fn put_head(size: Size, most: u32, qp: u32, millionths: u64) -> bool {
+    put(b"A picture of ")
+        && put_size(size)
+        && put(b" in blocks of 8 by 8, coded at QP ")
         && put_number(qp as u64)
         && put(b", lambda ")
         && put_number(millionths / 1000000)
         && put_millionths(millionths % 1000000)
-        && put(b".\n")
-        && put_legend()
+        && put(b", and shown as the viewer shows it.\n")
+        && put_legend(most)
 }
 
 // How a reading has ended: with as many bytes as came, or by a failure.
@@ -243,42 +373,104 @@ fn read_all(buf: &mut [u8]) -> Taken {
     Taken::Bytes(have)
 }
 
-fn unread() -> bool {
+fn unread() {
     os::fail(b"label: standard input");
-    false
 }
 
-fn wrong_line(k: usize) -> bool {
-    say(b"label: line ");
-    io::print_decimal(STDERR_FILENO, k as u64 / 17 + 1);
-    say(b" of the picture is not 16 of # + . and a newline\n");
-    false
+// What was read: a picture and its maxval, or nothing, and then it was said why.
+enum Found {
+    Picture(Size, u32),
+    Nothing,
 }
 
-// Nothing may stand behind the picture.
-fn picture_ends() -> bool {
-    let mut behind = [0u8; 1];
-    match read_all(&mut behind) {
-        Taken::Failed => unread(),
-        Taken::Bytes(n) => {
-            if n > 0 {
-                say(b"label: the picture has more than 16 lines\n");
-            }
-            n == 0
-        }
+fn nothing(text: &[u8]) -> Found {
+    say(text);
+    Found::Nothing
+}
+
+fn other_form(kind: u8) -> Found {
+    say(b"label: this is a P");
+    let letter = [kind];
+    say(&letter);
+    nothing(b" picture: label reads P2 and P5, which are grey (PGM)\n")
+}
+
+fn few_samples(k: usize) -> Found {
+    say(b"label: the picture ends, or has something else than a number, behind its sample ");
+    io::print_decimal(STDERR_FILENO, k as u64);
+    nothing(b"\n")
+}
+
+fn high_sample(k: usize) -> Found
+    requires { ⌜ k < 65536 ⌝ }
+{
+    say(b"label: the picture's maxval is below its sample ");
+    io::print_decimal(STDERR_FILENO, k as u64 + 1);
+    nothing(b"\n")
+}
+
+// The reader lets nothing else through: a number from 1 to `most`.
+fn within(n: usize, most: usize) -> usize
+    requires { ⌜ 1 ≤ most ⌝ }
+    ensures { λ r. ⌜ (1 ≤ r) × (r ≤ most) ⌝ }
+{
+    if n < 1 {
+        return 1;
     }
+    if most < n {
+        return most;
+    }
+    n
 }
 
-// Whether a picture could be taken. What is missing at its end is left 0, which is none of its bytes.
-fn take_picture(picture: &mut [u8; 272]) -> bool {
-    let Taken::Bytes(_) = read_all(picture) else {
-        return unread();
+fn take_from(bytes: &[u8], header: Header, camera: &mut [u16]) -> Found
+    requires { ⌜ 65536 ≤ length (now camera) ⌝ }
+{
+    let size = Size {
+        width: within(header.width, 256),
+        height: within(header.height, 256),
     };
-    let k = first_fault(picture);
-    if k < 272 {
-        return wrong_line(k);
+    let most = within(header.most as usize, 65535) as u32;
+    let form = header.form;
+    match take_samples(bytes, header.at, form, most, area(size), camera) {
+        Samples::All => Found::Picture(size, most),
+        Samples::Missing(k) => few_samples(k),
+        Samples::Above(k) => high_sample(k % 65536),
     }
-    picture_ends()
+}
+
+fn take_picture(bytes: &[u8], camera: &mut [u16]) -> Found
+    requires { ⌜ 65536 ≤ length (now camera) ⌝ }
+{
+    match read_header(bytes) {
+        Head::Is(header) => take_from(bytes, header, camera),
+        Head::NoPgm => nothing(b"label: this is not a PGM picture: neither P2 nor P5\n"),
+        Head::Other(kind) => other_form(kind),
+        Head::NoWidth => nothing(b"label: the picture's width is missing or 0\n"),
+        Head::NoHeight => nothing(b"label: the picture's height is missing or 0\n"),
+        Head::TooLarge => nothing(b"label: the picture is larger than 256 by 256\n"),
+        Head::NoMost => nothing(b"label: the picture's maxval is missing, 0 or above 65535\n"),
+        Head::NoSamples => nothing(b"label: no blank stands behind the picture's maxval\n"),
+    }
+}
+
+fn take_first(bytes: &[u8], n: usize, camera: &mut [u16]) -> Found
+    requires { ⌜ (n ≤ length (now bytes)) × (65536 ≤ length (now camera)) ⌝ }
+{
+    take_picture(&bytes[..n], camera)
+}
+
+fn read_picture(bytes: &mut [u8], camera: &mut [u16]) -> Found
+    requires { ⌜ 65536 ≤ length (now camera) ⌝ }
+{
+    let Taken::Bytes(n) = read_all(bytes) else {
+        unread();
+        return Found::Nothing;
+    };
+    if n < bytes.len() {
+        return take_first(bytes, n, camera);
+    }
+    nothing(b"label: the picture has 524288 bytes or more\n")
 }
 
 fn word(i: usize, most: u64) -> Natural {
@@ -308,51 +500,176 @@ fn asked_lambda(qp: u32) -> Natural
     }
 }
 
-fn in_all(a: Tally, b: Tally, c: Tally, d: Tally) -> Tally
-    requires { ⌜ Most 64 a × Most 64 b × Most 64 c × Most 64 d ⌝ }
-{
-    a.with(b).with(c).with(d)
+fn put_sum(t: Tally) -> bool {
+    put(b"\nin all: ") && put_tally(t) && put(b"\n")
 }
 
-fn show_sum(t: Tally) {
-    if !(put(b"\nin all: ") && put_tally(t) && put(b"\n")) {
+// Every block, one behind the other, and what became of all levels.
+fn show_blocks(camera: &[u16], kept: &mut [u16], size: Size, qp: u32, millionths: u64) -> bool
+    requires { ⌜ Sides size × (qp ≤ 63) × (millionths ≤ 8192000000) ⌝ }
+    requires { ⌜ (65536 ≤ length (now camera)) × (65536 ≤ length (now kept)) ⌝ }
+{
+    let n = across(size) * down(size);
+    let mut t = fates::none();
+    let mut b = 0;
+    while b < n {
+        let s = show_block(camera, kept, size, b, qp, millionths);
+        if !s.ok {
+            return false;
+        }
+        t = t.with(s.tally);
+        b += 1;
+    }
+    put_sum(t)
+}
+
+// How many samples a grey of the whole picture stands for, so that the two stand beside each other.
+fn grey_step(size: Size) -> usize
+    requires { ⌜ Sides size ⌝ }
+    ensures { λ r. ⌜ (1 ≤ r) × (r ≤ 5) ⌝ }
+{
+    (size.width + 55) / 56
+}
+
+fn put_grey_row(camera: &[u16], shown: &[u16], width: usize, y: usize, step: usize) -> bool
+    requires { ⌜ (width ≤ 256) × (y ≤ 255) × (1 ≤ step) × (step ≤ 5) ⌝ }
+    requires { ⌜ (65536 ≤ length (now camera)) × (65536 ≤ length (now shown)) ⌝ }
+{
+    let mut text = [b' '; 1280];
+    let n = grey_row(&mut text, camera, shown, width, y, step);
+    put_part(&text, n)
+}
+
+fn put_greys(camera: &[u16], shown: &[u16], width: usize, height: usize, step: usize) -> bool
+    requires { ⌜ (width ≤ 256) × (height ≤ 256) × (1 ≤ step) × (step ≤ 5) ⌝ }
+    requires { ⌜ (65536 ≤ length (now camera)) × (65536 ≤ length (now shown)) ⌝ }
+{
+    let mut y = 0;
+    while y < height {
+        if !put_grey_row(camera, shown, width, y, step) {
+            return false;
+        }
+        y += step;
+    }
+    true
+}
+
+fn put_whole(camera: &[u16], shown: &[u16], size: Size) -> bool
+    requires { ⌜ Sides size ⌝ }
+    requires { ⌜ (65536 ≤ length (now camera)) × (65536 ≤ length (now shown)) ⌝ }
+{
+    let step = grey_step(size);
+    put(b"\nthe whole as the camera saw it, and as it is shown; dark is @; a character stands for ")
+        && put_number(step as u64)
+        && put(b" by ")
+        && put_number(step as u64)
+        && put(b":\n")
+        && put_greys(camera, shown, size.width, size.height, step)
+}
+
+fn put_worst(worst: Worst, size: Size, seen: u16) -> bool
+    requires { ⌜ Sides size ⌝ }
+{
+    put(b"largest difference of a sample in the whole ")
+        && put_number(worst.most as u64)
+        && put(b", in row ")
+        && put_number((worst.at / size.width) as u64)
+        && put(b", column ")
+        && put_number((worst.at % size.width) as u64)
+        && put(b", where the camera saw ")
+        && put_number(seen as u64)
+        && put(
+            b"; both count from 0.\nIt is what came of this picture: nothing is proved of how large it can be.\n",
+        )
+}
+
+fn put_pgm_row(shown: &[u16], width: usize, y: usize) -> bool
+    requires { ⌜ (1 ≤ width) × (width ≤ 256) × (y ≤ 255) × (65536 ≤ length (now shown)) ⌝ }
+{
+    let mut text = [b' '; 1280];
+    pgm_row(&mut text, shown, width, y);
+    put_part(&text, width * 5)
+}
+
+// The picture shown, as P2 has it.
+fn put_pgm(shown: &[u16], width: usize, height: usize) -> bool
+    requires { ⌜ (1 ≤ width) × (width ≤ 256) × (height ≤ 256) × (65536 ≤ length (now shown)) ⌝ }
+{
+    let mut y = 0;
+    while y < height {
+        if !put_pgm_row(shown, width, y) {
+            return false;
+        }
+        y += 1;
+    }
+    true
+}
+
+fn put_pgm_head(size: Size) -> bool {
+    put(b"\nthe picture shown, as a PGM:\nP2\n")
+        && put_number(size.width as u64)
+        && put(b" ")
+        && put_number(size.height as u64)
+        && put(b"\n1023\n")
+}
+
+fn put_shown(camera: &[u16], shown: &[u16], size: Size) -> bool
+    requires { ⌜ Sides size ⌝ }
+    requires { ⌜ (65536 ≤ length (now camera)) × (65536 ≤ length (now shown)) ⌝ }
+{
+    let worst = farthest(camera, shown, area(size));
+    let at = worst.at;
+    put_whole(camera, shown, size)
+        && put_worst(worst, size, camera[at])
+        && put_pgm_head(size)
+        && put_pgm(shown, size.width, size.height)
+}
+
+fn show_picture(camera: &[u16], size: Size, most: u32, qp: u32, millionths: u64)
+    requires { ⌜ Sides size × (qp ≤ 63) × (millionths ≤ 8192000000) × (65536 ≤ length (now camera)) ⌝ }
+{
+    let mut kept = [0u16; 65536];
+    let mut shown = [0u16; 65536];
+    if !put_head(size, most, qp, millionths) {
+        unwritten();
+        return;
+    }
+    if !show_blocks(camera, &mut kept, size, qp, millionths) {
+        return;
+    }
+    by_rows(&kept, size, &mut shown);
+    if !put_shown(camera, &shown, size) {
         unwritten();
     }
 }
 
-fn show_blocks(picture: &[u8; 272], qp: u32, millionths: u64)
-    requires { ⌜ (qp ≤ 63) × (millionths ≤ 8192000000) ⌝ }
+fn show_sized(camera: &[u16], width: usize, height: usize, most: u32, qp: u32, millionths: u64)
+    requires { ⌜ (qp ≤ 63) × (millionths ≤ 8192000000) × (65536 ≤ length (now camera)) ⌝ }
 {
-    let a = show_block(picture, 0, qp, millionths);
-    if !a.ok {
-        return;
-    }
-    let b = show_block(picture, 1, qp, millionths);
-    if !b.ok {
-        return;
-    }
-    let c = show_block(picture, 2, qp, millionths);
-    if !c.ok {
-        return;
-    }
-    let d = show_block(picture, 3, qp, millionths);
-    if d.ok {
-        show_sum(in_all(a.tally, b.tally, c.tally, d.tally));
+    let size = Size {
+        width: within(width, 256),
+        height: within(height, 256),
+    };
+    show_picture(camera, size, most, qp, millionths);
+}
+
+fn show_read(bytes: &mut [u8], camera: &mut [u16], qp: u32, millionths: u64)
+    requires { ⌜ (qp ≤ 63) × (millionths ≤ 8192000000) × (65536 ≤ length (now camera)) ⌝ }
+{
+    match read_picture(bytes, camera) {
+        Found::Picture(size, most) => {
+            show_sized(camera, size.width, size.height, most, qp, millionths);
+        }
+        Found::Nothing => {}
     }
 }
 
 fn show(qp: u32, millionths: u64)
     requires { ⌜ (qp ≤ 63) × (millionths ≤ 8192000000) ⌝ }
 {
-    let mut picture = [0u8; 272];
-    if !take_picture(&mut picture) {
-        return;
-    }
-    if put_head(qp, millionths) {
-        show_blocks(&picture, qp, millionths);
-    } else {
-        unwritten();
-    }
+    let mut bytes = [0u8; 524288];
+    let mut camera = [0u16; 65536];
+    show_read(&mut bytes, &mut camera, qp, millionths);
 }
 
 fn main() {

@@ -1,14 +1,14 @@
-// The page of a block as text: its part of the picture, and its levels by rows with their marks.
+// The page as text: a block's samples as the camera saw them beside those shown, its levels by rows with their marks,
+// and rows of the two whole pictures, as greys and as PGM has them.
 use coefficients::skip::absolute;
 use fates::Fate;
 use fates::Tally;
 use fates::became;
 use fates::none;
-use picture::place;
 ghost use mathlib.Core.Path.{_≡_};
 ghost use Prim.Native.Nat.{_≤_, _<_, _+_};
+ghost use lib.ListN.{length};
 ghost use Rattle.fates.specs.Fate.{blockTally, Most};
-ghost use Rattle.page.specs.Page.{pictureByte, PictureText};
 
 fn mark(fate: Fate) -> u8 {
     match fate {
@@ -54,31 +54,6 @@ fn put_level(text: &mut [u8; 456], at: usize, level: i16)
     }
 }
 
-fn picture_byte(picture: &[u8; 272], at: usize, i: usize) -> u8
-    requires { ⌜ (at < 4) × (i < 72) ⌝ }
-    ensures { λ r. ⌜ r ≡ pictureByte (now (picture .entry)) at i ⌝ }
-{
-    if i % 9 == 8 {
-        b'\n'
-    } else {
-        picture[place(at, i / 9, i % 9)]
-    }
-}
-
-// The eight rows of a block of the picture, each ended by a newline.
-pub fn picture_text(picture: &[u8; 272], at: usize) -> [u8; 72]
-    requires { ⌜ at < 4 ⌝ }
-    ensures { λ r. ⌜ PictureText (now (picture .entry)) at r ⌝ }
-{
-    let mut text = [0u8; 72];
-    let mut i = 0;
-    while i < 72 {
-        text[i] = picture_byte(picture, at, i);
-        i += 1;
-    }
-    text
-}
-
 // What stands behind the i-th level and its mark: the row ends, or the next level begins.
 fn behind(i: usize) -> u8 {
     if i % 8 == 7 { b'\n' } else { b' ' }
@@ -106,4 +81,104 @@ pub fn put_levels(
         i += 1;
     }
     t
+}
+
+fn digit(v: u16) -> u8
+    ensures { λ r. ⌜ r < 58 ⌝ }
+{
+    48 + (v % 10) as u8
+}
+
+// A sample right-aligned in four bytes from `at`.
+fn put_sample(text: &mut [u8; 1280], at: usize, v: u16)
+    requires { ⌜ at + 4 ≤ 1280 ⌝ }
+{
+    text[at + 3] = digit(v);
+    if 9 < v {
+        text[at + 2] = digit(v / 10);
+    }
+    if 99 < v {
+        text[at + 1] = digit(v / 100);
+    }
+    if 999 < v {
+        text[at] = digit(v / 1000);
+    }
+}
+
+// Eight rows of 85 bytes: eight samples in five bytes each as the camera saw them, and eight as they are shown.
+pub fn put_samples(text: &mut [u8; 1280], seen: &[u16; 64], view: &[u16; 64]) {
+    let mut i = 0;
+    while i < 64 {
+        let at = i / 8 * 85 + i % 8 * 5;
+        put_sample(text, at, seen[i]);
+        put_sample(text, at + 44, view[i]);
+        if i % 8 == 7 {
+            text[at + 49] = b'\n';
+        }
+        i += 1;
+    }
+}
+
+// Ten greys, from dark to light.
+const GREYS: [u8; 10] = [b'@', b'%', b'#', b'*', b'+', b'=', b'-', b':', b'.', b' '];
+
+fn grey(v: u16) -> u8 {
+    if v < 1024 {
+        GREYS[(v / 103) as usize]
+    } else {
+        b' '
+    }
+}
+
+// Row y of the two pictures beside each other, a grey for each step-th sample; says how long the text is.
+pub fn grey_row(
+    text: &mut [u8; 1280],
+    camera: &[u16],
+    shown: &[u16],
+    width: usize,
+    y: usize,
+    step: usize,
+) -> usize
+    requires { ⌜ (width ≤ 256) × (y ≤ 255) × (1 ≤ step) × (step ≤ 5) ⌝ }
+    requires { ⌜ (65536 ≤ length (now camera)) × (65536 ≤ length (now shown)) ⌝ }
+    ensures { λ r. ⌜ r ≤ 1280 ⌝ }
+{
+    let from = y * width;
+    let right = width / step + 5;
+    let mut x = 0;
+    let mut j = 0;
+    while x < width {
+        text[j] = grey(camera[from + x]);
+        text[right + j] = grey(shown[from + x]);
+        x += step;
+        j += 1;
+    }
+    text[right + j] = b'\n';
+    right + j + 1
+}
+
+// What stands behind sample x of a row of a PGM: a line has at most 14.
+fn after_sample(x: usize, width: usize) -> u8
+    requires { ⌜ 1 ≤ width ⌝ }
+{
+    if x == width - 1 {
+        return b'\n';
+    }
+    if x % 14 == 13 {
+        return b'\n';
+    }
+    b' '
+}
+
+// Row y of the picture shown, as P2 has it: five bytes a sample.
+pub fn pgm_row(text: &mut [u8; 1280], shown: &[u16], width: usize, y: usize)
+    requires { ⌜ (1 ≤ width) × (width ≤ 256) × (y ≤ 255) × (65536 ≤ length (now shown)) ⌝ }
+{
+    let from = y * width;
+    let mut x = 0;
+    while x < width {
+        put_sample(text, x * 5, shown[from + x]);
+        text[x * 5 + 4] = after_sample(x, width);
+        x += 1;
+    }
 }

@@ -1,36 +1,54 @@
--- The picture of a label: 16 lines of 16 bytes and a newline. As residuals it is four blocks, two beside and two below
--- each other.
+-- A picture of up to 256 by 256 samples, by rows, and its blocks of 8 by 8, counted along the rows; places of a block
+-- are counted so too.
 use mathlib.Core.Path.{_≡_}
 use mathlib.Core.Bool.{Bool, true, false, cond}
 use mathlib.Core.List.{List}
-use Prim.Native.Nat.{ℕ, _+_, _*_, _/_, _%_, _≤_, _<_}
-use lib.Dec.{eqb}
-use lib.IntN.{ℤ, pos, negsuc}
+use Prim.Native.Nat.{ℕ, _+_, _-_, _*_, _/_, _%_, _≤_, _<_, min}
+use lib.Dec.{ltb}
 use lib.ListN.{getD}
-use Rattle.integers.specs.Sum.{at}
+use Rattle.picture.specs.declared.Size.{Size}
 
--- whether a byte may stand at place k: behind 16 of #, + and . a newline
-unfoldable pub soundAt : (byte k : ℕ) → Bool
-soundAt byte k =
-    cond (eqb (k % 17) 16) (eqb byte 10) (cond (eqb byte 35) true (cond (eqb byte 43) true (eqb byte 46)))
+pub record Sides (size : Size) : Type 0 where
+  pub some-wide : 1 ≤ size .width
+  pub wide : size .width ≤ 256
+  pub some-high : 1 ≤ size .height
+  pub high : size .height ≤ 256
 
--- all 272 bytes may stand where they do before place k, and the one at k may not, if there is one
-pub record FirstFault (picture : List ℕ) (k : ℕ) : Type 0 where
-  pub within : k ≤ 272
-  pub sound : (j : ℕ) → j < k → soundAt (getD picture j 0) j ≡ true
-  pub fault : k < 272 → soundAt (getD picture k 0) k ≡ false
+-- how many blocks stand beside and below each other
+abbrev pub acrossOf : Size → ℕ
+acrossOf size = (size .width + 7) / 8
 
--- what a byte leaves under a flat prediction: ink, an edge, paper
-unfoldable pub residualOf : ℕ → ℤ
-residualOf b = cond (eqb b 35) (negsuc 599) (cond (eqb b 43) (negsuc 249) (pos 120))
+abbrev pub downOf : Size → ℕ
+downOf size = (size .height + 7) / 8
 
--- where row y, column x of a block stands
-abbrev pub placeOf : (block y x : ℕ) → ℕ
-placeOf block y x = (block / 2 * 8 + y) * 17 + block % 2 * 8 + x
+-- row and column of place i of a block, which may lie behind the picture's last
+abbrev pub rowOf : Size → (block i : ℕ) → ℕ
+rowOf size block i = block / acrossOf size * 8 + i / 8
 
--- the residual at place k of a block, by rows
-abbrev pub residualAt : List ℕ → (block k : ℕ) → ℤ
-residualAt picture block k = residualOf (getD picture (placeOf block (k / 8) (k % 8)) 0)
+abbrev pub columnOf : Size → (block i : ℕ) → ℕ
+columnOf size block i = block % acrossOf size * 8 + i % 8
 
-abbrev pub Taken : List ℕ → ℕ → List ℤ → Type 0
-Taken picture block residuals = (k : ℕ) → k < 64 → at residuals k ≡ residualAt picture block k
+unfoldable pub insideOf : Size → (block i : ℕ) → Bool
+insideOf size block i =
+    cond (ltb (rowOf size block i) (size .height)) (cond (ltb (columnOf size block i) (size .width)) true false) false
+
+-- where its sample stands, or the nearest one of the last row and the last column
+unfoldable pub placeOf : Size → (block i : ℕ) → ℕ
+placeOf size block i =
+    min (rowOf size block i) (size .height - 1) * size .width + min (columnOf size block i) (size .width - 1)
+
+abbrev pub Taken : List ℕ → Size → ℕ → List ℕ → Type 0
+Taken camera size block samples = (i : ℕ) → i < 64 → getD samples i 0 ≡ getD camera (placeOf size block i) 0
+
+-- a block is kept behind those before it, which stay
+pub record Kept (before : List ℕ) (block : ℕ) (samples after : List ℕ) : Type 0 where
+  pub here : (i : ℕ) → i < 64 → getD after (block * 64 + i) 0 ≡ getD samples i 0
+  pub others : (k : ℕ) → k < block * 64 → getD after k 0 ≡ getD before k 0
+
+-- where the sample at place p of the picture is kept: its row and column by blocks, and in its block
+unfoldable pub keptOf : Size → ℕ → ℕ
+keptOf size p =
+    (p / size .width / 8 * acrossOf size + p % size .width / 8) * 64 + p / size .width % 8 * 8 + p % size .width % 8
+
+abbrev pub ByRows : List ℕ → Size → List ℕ → Type 0
+ByRows kept size shown = (p : ℕ) → p < size .height * size .width → getD shown p 0 ≡ getD kept (keptOf size p) 0

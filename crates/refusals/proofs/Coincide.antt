@@ -4,13 +4,17 @@
 use mathlib.Core.Path.{_≡_, refl, sym, ap, _∙_}
 use mathlib.Core.List.{[], _∷_}
 use Prim.Native.Nat.{ℕ}
+use native.Mathlib.Omega.{arith}
 use lib.ListN.{getD}
 use Rattle.refusals.specs.declared.Refusal.{Refusal}
 use Rattle.refusals.specs.declared.Refusal.the-variants.{Side, Qp, Lambda, Cost, Length, Sample, Level, Price}
 use Rattle.refusals.specs.declared.Refusal.the-variants.{Distortion}
+use Rattle.refusals.specs.declared.Verdict.{Verdict}
+use Rattle.refusals.specs.declared.Verdict.the-variants.{Accepted, Refused}
 use Rattle.refusals.specs.declared.Component.{Component}
 use Rattle.refusals.specs.declared.Component.the-variants.{Y, U, «V»}
 use Rattle.refusals.specs.Numbers.{numberOf, componentOf}
+use Rattle.refusals.specs.Faults.{Outcome, verdictOutcome}
 
 -- a function that another undoes tells its arguments apart
 undone : {A B : Type 0} (f : A → B) (back : B → A) → ((a : A) → back (f a) ≡ a) → (a b : A) → f a ≡ f b → a ≡ b
@@ -50,3 +54,15 @@ pub coincide : {R P B : Type 0} (paper : R → P) (tells : (a b : R) → paper a
     (buffer : B)
     (r₁ r₂ : R) (b₁ b₂ : B) → paper r₁ ≡ answer → b₁ ≡ buffer → paper r₂ ≡ answer → b₂ ≡ buffer → (r₁ ≡ r₂) × (b₁ ≡ b₂)
 coincide paper tells answer buffer r₁ r₂ b₁ b₂ e₁ f₁ e₂ f₂ = (tells r₁ r₂ (e₁ ∙ sym e₂), f₁ ∙ sym f₂)
+
+-- the paper's numbers tell verdicts apart
+verdict-tells : (a b : Verdict) → verdictOutcome a ≡ verdictOutcome b → a ≡ b
+verdict-tells Accepted Accepted e = refl
+verdict-tells Accepted (Refused w) e = absurd (let z : _≡_ {A = ℕ} 0 1 = cc in let no : ⊥ = omega arith in no)
+verdict-tells (Refused w) Accepted e = absurd (let z : _≡_ {A = ℕ} 0 1 = cc in let no : ⊥ = omega arith in no)
+verdict-tells (Refused w) (Refused x) e = ap Refused (number-tells w x (cc))
+
+-- the outcomes of a call that answers only whether it was accepted
+pub verdicts-coincide : {B : Type 0} (answer : Outcome Unit) (buffer : B) (r₁ r₂ : Verdict) (b₁ b₂ : B)
+    → verdictOutcome r₁ ≡ answer → b₁ ≡ buffer → verdictOutcome r₂ ≡ answer → b₂ ≡ buffer → (r₁ ≡ r₂) × (b₁ ≡ b₂)
+verdicts-coincide = coincide verdictOutcome verdict-tells

@@ -5,6 +5,8 @@ use mathlib.Core.List.{List, [], _∷_}
 use Prim.Native.Nat.{ℕ}
 use lib.Dec.{leb}
 use Rattle.refusals.specs.declared.Refusal.{Refusal}
+use Rattle.refusals.specs.declared.Verdict.{Verdict}
+use Rattle.refusals.specs.declared.Verdict.the-variants.{Accepted, Refused}
 use Rattle.refusals.specs.declared.Component.{Component}
 use Rattle.refusals.specs.declared.Component.the-variants.{Y}
 use Rattle.refusals.specs.Numbers.{numberOf, componentOf}
@@ -32,6 +34,11 @@ unfoldable pub verdict : {I : Type 0} → List (Fault I) → I → Outcome Unit
 verdict [] i = passed
 verdict (f ∷ fs) i =
     let rest = verdict fs i in cond (f .holds i) (refused (numberOf (f .refusal)) (componentOf (f .component i))) rest
+
+-- what code says of such a call, by the paper's numbers
+abbrev pub verdictOutcome : Verdict → Outcome Unit
+verdictOutcome Accepted = passed
+verdictOutcome (Refused why) = refused (numberOf why) 0
 
 -- with that verdict the answer a
 abbrev pub answering : {A : Type 0} → Outcome Unit → A → Outcome A

@@ -2,6 +2,7 @@
 // paper's number for each, what comes of a call, and how its refusal comes from the list of its faults: it is the first
 // that holds.
 ghost use mathlib.Core.Path.{_≡_};
+ghost use Prim.Native.Nat.{_^_, _≤_};
 ghost use Rattle.refusals.specs.Numbers.{numberOf, componentOf};
 ghost use Rattle.refusals.specs.Sides.{mostLog2};
 ghost use Rattle.refusals.specs.Faults.{outside};
@@ -22,6 +23,12 @@ pub enum Component {
     Y,
     U,
     V,
+}
+
+// What a call says that answers only whether it was accepted; a fault of it belongs to no component.
+pub enum Verdict {
+    Accepted,
+    Refused(Refusal),
 }
 
 // The paper's number of a refusal, for those who know no names; and of a component.
@@ -59,4 +66,24 @@ pub fn no_side(log2: usize) -> bool
         return true;
     }
     5 < log2
+}
+
+// The side of a log2 side. By cases, so that the compiler knows how large it can be.
+pub fn side(log2: usize) -> usize
+    requires { ⌜ (1 ≤ log2) × (log2 ≤ mostLog2) ⌝ }
+    ensures { λ r. ⌜ (r ≡ 2 ^ log2) × (r ≤ 32) ⌝ }
+{
+    if log2 == 1 {
+        return 2;
+    }
+    if log2 == 2 {
+        return 4;
+    }
+    if log2 == 3 {
+        return 8;
+    }
+    if log2 == 4 {
+        return 16;
+    }
+    32
 }

@@ -11,7 +11,7 @@ use Rattle.numerals.specs.declared.number.Natural.the-variants as naturals
 use Rattle.numerals.specs.declared.number.Sample.{Sample}
 use Rattle.numerals.specs.declared.number.Sample.the-variants as samples
 use Rattle.verbs.specs.declared.Verb.{Verb}
-use Rattle.verbs.specs.declared.Verb.the-variants.{Transform, Quantise, SubBlock}
+use Rattle.verbs.specs.declared.Verb.the-variants.{Transform, Quantise, SubBlock, ScaleBack, Inverse}
 use Rattle.verbs.specs.declared.Named.{Named}
 use Rattle.verbs.specs.declared.Named.the-variants as names
 use Rattle.numerals.specs.Number.{naturalUpTo, sampleOf, bitsOf}
@@ -55,10 +55,14 @@ costKinds = replicate 28 119
 --   transform: LOG2W LOG2H
 --   quantise: COMPONENT LOG2 QP LAMBDA FLAGS, COSTS
 --   subblock: LOG2 RUN QPY LAMBDAY QPU LAMBDAU QPV LAMBDAV FLAGS, COSTS
+--   scaleback: LOG2 QP
+--   inverse: LOG2W LOG2H
 abbrev pub kindsOf : Verb → List ℕ
 kindsOf Transform = 119 ∷ 119 ∷ []
 kindsOf Quantise = 99 ∷ 119 ∷ 105 ∷ 120 ∷ 105 ∷ costKinds
 kindsOf SubBlock = 119 ∷ 105 ∷ 105 ∷ 120 ∷ 105 ∷ 120 ∷ 105 ∷ 120 ∷ 105 ∷ costKinds
+kindsOf ScaleBack = 119 ∷ 105 ∷ []
+kindsOf Inverse = 119 ∷ 119 ∷ []
 
 -- a number for each kind, from the words at the front, and the words behind them
 unfoldable pub fieldsOf : List ℕ → List (List ℕ) → Option (List ℕ × List (List ℕ))

@@ -68,6 +68,8 @@ fn read_fields(line: &[u8], at: usize, kinds: &[u8], fields: &mut [u64]) -> Plac
 //   transform: LOG2W LOG2H
 //   quantise: COMPONENT LOG2 QP LAMBDA FLAGS, COSTS
 //   subblock: LOG2 RUN QPY LAMBDAY QPU LAMBDAU QPV LAMBDAV FLAGS, COSTS
+//   scaleback: LOG2 QP
+//   inverse: LOG2W LOG2H
 pub fn read_head(verb: Verb, line: &[u8], at: usize, fields: &mut [u64; 40]) -> Place
     ensures { λ r. ⌜ Fields (kindsOf verb) (now (line .entry)) at (now (fields .exit)) r ⌝ }
 {
@@ -75,6 +77,8 @@ pub fn read_head(verb: Verb, line: &[u8], at: usize, fields: &mut [u64; 40]) -> 
         Verb::Transform => read_fields(line, at, b"ww", fields),
         Verb::Quantise => read_fields(line, at, b"cwixiwwwwwwwwwwwwwwwwwwwwwwwwwwww", fields),
         Verb::SubBlock => read_fields(line, at, b"wiixixixiwwwwwwwwwwwwwwwwwwwwwwwwwwww", fields),
+        Verb::ScaleBack => read_fields(line, at, b"wi", fields),
+        Verb::Inverse => read_fields(line, at, b"ww", fields),
     }
 }
 

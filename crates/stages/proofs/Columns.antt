@@ -23,7 +23,7 @@ module _ (N : ℕ) (src : List ℤ) (j : ℕ) where
   abbrev pub line : List ℤ
   line = take (j * N + N - j * N) (drop (j * N) src)
 
-  line-at : (n : ℕ) → n < N → at line n ≡ at src (j * N + n)
+  pub line-at : (n : ℕ) → n < N → at line n ≡ at src (j * N + n)
   line-at n h =
       getD-take (j * N + N - j * N) (drop (j * N) src) n (pos 0) (omega arith) ∙ getD-drop (j * N) src n (pos 0)
 

@@ -1,2 +1,4 @@
 pub mod Columns
 pub mod Lines
+pub mod Product
+pub mod Sizes

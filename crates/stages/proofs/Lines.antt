@@ -7,9 +7,8 @@ use Prim.Native.Nat.{ℕ, _+_, _*_, _^_, _<_, _≤_}
 use native.Mathlib.Omega.{arith}
 use lib.ListN.{length}
 use lib.IntN.{ℤ}
-use Rattle.integers.specs.Sum.{at}
 use Rattle.tables.specs.Matrix.{Matrices}
-use Rattle.butterfly.specs.Inner.Lines.{lineAt, place, Room}
+use Rattle.butterfly.specs.Inner.Lines.{lineAt, Room}
 use Rattle.butterfly.proofs.OddHalf.{noughts, noughts-length}
 use Rattle.columns.specs.Inner.Placed.{Placed}
 use Rattle.stages.specs.Inner.Stages.{stageAt, Staged}
@@ -32,15 +31,15 @@ module _ (M : Matrices) (f : ℤ → ℤ) (l lines : ℕ) (src first : List ℤ)
   pub none-passed : Passed first 0
   none-passed = (omega arith, refl, λ j k h. absurd (let no : ⊥ = omega arith in no))
 
-  -- line j goes down its column from a row that holds it
-  pub passed-more : (old new row : List ℤ) (j : ℕ) → j < lines → length new ≡ length old
-      → ((k : ℕ) → k < 2 ^ l → at row (place l k) ≡ f (lineAt M (2 ^ l) (line (2 ^ l) src j) k))
-      → Placed lines j (2 ^ l) (λ k. at row (place l k)) old new
+  -- line j goes down its column: r is what is stored
+  pub passed-more : (old new : List ℤ) (r : ℕ → ℤ) (j : ℕ) → j < lines → length new ≡ length old
+      → ((k : ℕ) → k < 2 ^ l → r k ≡ f (lineAt M (2 ^ l) (line (2 ^ l) src j) k))
+      → Placed lines j (2 ^ l) r old new
       → Passed old j → Passed new (j + 1)
-  passed-more old new row j hj ln holds placed was = (
+  passed-more old new r j hj ln holds placed was = (
     omega arith,
     ln ∙ was .1,
-    columns-more (λ j k. f (stageAt M (2 ^ l) src j k)) (2 ^ l) lines (λ j. j) old new j (λ k. at row (place l k))
+    columns-more (λ j k. f (stageAt M (2 ^ l) src j k)) (2 ^ l) lines (λ j. j) old new j r
         (own-column lines j hj) (λ k h. holds k h ∙ ap f (line-is (2 ^ l) src j M k)) placed (was .2),
   )
 

@@ -7,7 +7,7 @@ use coding::QuantAnswer;
 use components::Request;
 use quantise::quant_nnz;
 use refusals::Component;
-use transform::TransAnswer;
+use refusals::Verdict;
 use transform::trans;
 ghost use mathlib.Core.Path.{_≡_};
 ghost use Prim.Native.Nat.{_≤_};
@@ -54,8 +54,8 @@ pub fn code_component(
         };
         let t = trans(part, log2, log2);
         return match t {
-            TransAnswer::Refused(why) => QuantAnswer::Refused(why, component),
-            TransAnswer::Accepted => quant_nnz(part, costs, coding),
+            Verdict::Refused(why) => QuantAnswer::Refused(why, component),
+            Verdict::Accepted => quant_nnz(part, costs, coding),
         };
     }
     QuantAnswer::Coded(Coded { count: 0, price: 0 })

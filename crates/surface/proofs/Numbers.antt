@@ -14,6 +14,9 @@ use lib.Ieee.{nan}
 use Rattle.refusals.specs.declared.Component.{Component}
 use Rattle.refusals.specs.declared.Component.the-variants.{Y, U, «V»}
 use Rattle.transform.specs.Call.{called, transVerdict}
+use Rattle.tables.specs.Scales.{back}
+use Rattle.decoding.specs.Call.{ScaleBack, levelsLent, scaleVerdict, scaleBuffer}
+use Rattle.decoding.specs.Call.{Inverse, coefficientsLent, inverseVerdict, inverseBuffer}
 use Rattle.price.specs.Costs.{costsOf}
 use Rattle.coding.specs.Block.{Quant}
 use Rattle.coding.specs.Block as quant
@@ -125,3 +128,32 @@ pub transform :
     × (resultOf (transVerdict (called (block (p 1) (p 2) (m 1024) (p 4)) 1 1)) ≡ 6)
 unfolding transVerdict
 transform = (refl, refl)
+
+-- ---- scaling back: accepted, with both clips and a surplus; refused with 1, 2 and 5
+abbrev Scales : ScaleBack → ℕ → List ℤ → Type 0
+Scales s result after = (resultOf (scaleVerdict s) ≡ result) × (scaleBuffer s ≡ after)
+
+pub scale-back :
+    Scales (levelsLent (block (p 9) (m 2) (m 32768) (p 32767)) 1 17) 0 (block (p 648) (m 144) (m 32768) (p 32767))
+    × Scales (levelsLent (p 1 ∷ p 2 ∷ m 3 ∷ p 300 ∷ m 7 ∷ []) 1 4) 0 (p 16 ∷ p 32 ∷ m 48 ∷ p 4800 ∷ m 7 ∷ [])
+    × Scales (levelsLent (p 2 ∷ []) 6 64) 1 (p 2 ∷ [])
+    × Scales (levelsLent (p 2 ∷ []) 1 64) 2 (p 2 ∷ [])
+    × Scales (levelsLent (p 2 ∷ []) 1 63) 5 (p 2 ∷ [])
+unfolding scaleBuffer back
+scale-back = ((refl, refl), (refl, refl), (refl, refl), (refl, refl), (refl, refl))
+
+-- ---- the inverse transform: 4 wide and 2 high, the same numbers 2 wide and 4 high; refused with 1 and 5
+abbrev Restores : Inverse → ℕ → List ℤ → Type 0
+Restores t result after = (resultOf (inverseVerdict t) ≡ result) × (inverseBuffer t ≡ after)
+
+abbrev eight : List ℤ
+eight = p 91 ∷ m 250 ∷ p 3 ∷ p 7 ∷ m 1900 ∷ p 20 ∷ p 0 ∷ m 61 ∷ []
+
+pub inverse :
+    Restores (coefficientsLent eight 2 1) 0 (m 67 ∷ m 58 ∷ m 55 ∷ m 46 ∷ p 52 ∷ p 55 ∷ p 70 ∷ p 72 ∷ [])
+    × Restores (coefficientsLent eight 1 2) 0 (m 64 ∷ m 48 ∷ p 56 ∷ p 68 ∷ p 51 ∷ p 73 ∷ m 63 ∷ m 50 ∷ [])
+    × Restores (coefficientsLent (p 7 ∷ []) 0 1) 1 (p 7 ∷ [])
+    × Restores (coefficientsLent (p 7 ∷ []) 1 6) 1 (p 7 ∷ [])
+    × Restores (coefficientsLent (p 7 ∷ []) 1 1) 5 (p 7 ∷ [])
+unfolding inverseBuffer
+inverse = ((refl, refl), (refl, refl), (refl, refl), (refl, refl), (refl, refl))

@@ -11,6 +11,7 @@ use lib.ListN.{getD}
 use Rattle.refusals.specs.declared.Component.{Component}
 use Rattle.refusals.specs.Faults.{Outcome, accepted, refused}
 use Rattle.transform.specs.Call.{Trans, transVerdict, transBuffer}
+use Rattle.decoding.specs.Call.{ScaleBack, scaleVerdict, scaleBuffer, Inverse, inverseVerdict, inverseBuffer}
 use Rattle.price.specs.declared.Settings.{Settings}
 use Rattle.price.specs.Costs.{costsOf}
 use Rattle.coding.specs.declared.Coded.{Coded}
@@ -38,10 +39,20 @@ codedIn flags = eqb (flags / 2 % 2) 1
 abbrev pub modeIn : ℕ → Mode
 modeIn flags = cond (eqb (flags / 4 % 2) 1) Least Walk
 
--- ---- the transform: its result and its block
-pub record TransLeft (t : Trans) (r : ℕ) (block : List ℤ) : Type 0 where
-  pub result : r ≡ resultOf (transVerdict t)
-  pub left : block ≡ transBuffer t
+-- ---- the transform, scaling back and the inverse transform, which answer a verdict alone: their result and their
+-- block, by the call's verdict and what it leaves
+pub record VerdictLeft (verdict : Outcome Unit) (buffer : List ℤ) (r : ℕ) (block : List ℤ) : Type 0 where
+  pub result : r ≡ resultOf verdict
+  pub left : block ≡ buffer
+
+abbrev pub TransLeft : Trans → (r : ℕ) → (block : List ℤ) → Type 0
+TransLeft t r block = VerdictLeft (transVerdict t) (transBuffer t) r block
+
+abbrev pub ScaleLeft : ScaleBack → (r : ℕ) → (block : List ℤ) → Type 0
+ScaleLeft s r block = VerdictLeft (scaleVerdict s) (scaleBuffer s) r block
+
+abbrev pub InverseLeft : Inverse → (r : ℕ) → (block : List ℤ) → Type 0
+InverseLeft t r block = VerdictLeft (inverseVerdict t) (inverseBuffer t) r block
 
 -- ---- the quantiser
 abbrev pub codingBy : Component → (log2 qp : ℕ) → Float → (flags : ℕ) → Coding

@@ -8,12 +8,24 @@ use components::Request;
 use components::SubBlockAnswer;
 use price::Settings;
 use refusals::Component;
+use refusals::Verdict;
 use refusals::component_number;
 use refusals::number;
 ghost use mathlib.Core.Path.{_≡_};
+ghost use Rattle.refusals.specs.Faults.{verdictOutcome};
 ghost use Rattle.coding.specs.Call.{quantOutcome};
 ghost use Rattle.components.specs.Call.{subBlockOutcome};
 ghost use Rattle.surface.specs.Surface.{resultOf, modeIn, codingBy, quantWritten, requestBy, threeWritten};
+
+// What a call that answers a verdict alone has said, as its result.
+pub fn result_of(verdict: Verdict) -> u32
+    ensures { λ r. ⌜ r ≡ resultOf (verdictOutcome verdict) ⌝ }
+{
+    match verdict {
+        Verdict::Accepted => 0,
+        Verdict::Refused(why) => number(why),
+    }
+}
 
 // Bit 2 of the flags.
 fn mode_of(flags: u32) -> Mode

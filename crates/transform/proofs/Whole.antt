@@ -12,9 +12,7 @@ use lib.IntN.{ℤ, pos, natAbs, _*ℤ_}
 use Rattle.integers.specs.Sum.{onℤ, sumℤ, at}
 use Rattle.integers.specs.Floor.{rounded}
 use Rattle.integers.specs.Tests.{listed}
-use Rattle.integers.proofs.Ring.{*-assoc}
 use Rattle.integers.proofs.Sums.{sum-ext}
-use Rattle.integers.proofs.Fold.{sum-times}
 use Rattle.integers.proofs.Floor.{rounded-bound}
 use Rattle.integers.proofs.Grid.{inside, row-of, column-of, row-inside, column-inside, place-is}
 use Rattle.integers.proofs.Tests.{listed-at, listed-length}
@@ -26,6 +24,7 @@ use Rattle.butterfly.specs.Inner.Lines.{Room}
 use Rattle.stages.specs.Inner.Stages.{stageAt, Staged}
 use Rattle.halves.specs.Inner.Halves.{half}
 use Rattle.butterfly.proofs.Bounds.{row-bound}
+use Rattle.stages.proofs.Product.{two-stages}
 use Rattle.halves.proofs.Halves.{half-bound, half-rounded}
 
 -- the shift takes away 128 times the block's places
@@ -33,18 +32,9 @@ shift-is : (lw lh : ℕ) → 2 ^ (7 + lw + lh) ≡ 128 * (2 ^ lw * 2 ^ lh)
 shift-is lw lh =
     pow-add 2 (7 + lw) lh ∙ ap (λ (n : ℕ). n * 2 ^ lh) (pow-add 2 7 lw) ∙ mul-assoc 128 (2 ^ lw) (2 ^ lh)
 
--- the lengths that a stage asks for, and the count of a block of 32 by 32
-pub lines-by-side : (n lines lw lh : ℕ) → n ≡ 2 ^ lw * 2 ^ lh → lines ≡ 2 ^ lh → n ≡ lines * 2 ^ lw
-lines-by-side n lines lw lh e l = e ∙ mul-comm (2 ^ lw) (2 ^ lh) ∙ ap (λ (m : ℕ). m * 2 ^ lw) (sym l)
-
-pub side-by-lines : (n lines lw lh : ℕ) → n ≡ 2 ^ lw * 2 ^ lh → lines ≡ 2 ^ lh → n ≡ 2 ^ lw * lines
-side-by-lines n lines lw lh e l = e ∙ ap (λ (m : ℕ). 2 ^ lw * m) (sym l)
-
+-- the count of a block of 32 by 32
 pub largest : (n lw lh : ℕ) → n ≡ 2 ^ lw * 2 ^ lh → lw + lh ≡ 10 → n ≡ 1024
 largest n lw lh e t = e ∙ sym (pow-add 2 lw lh) ∙ ap (λ (k : ℕ). 2 ^ k) t
-
-pub at-most-1024 : (n lw lh : ℕ) → n ≡ 2 ^ lw * 2 ^ lh → lw ≤ mostLog2 → lh ≤ mostLog2 → n ≤ 1024
-at-most-1024 n lw lh e hw hh = omega (arith, pow-add 2 lw lh, pow-mono {i = lw + lh} {j = 10} (omega arith))
 
 -- halves are rounded by one bit less
 module _ (lw lh : ℕ) (t : lw + lh ≡ 10) where
@@ -109,18 +99,8 @@ module _ (lw lh : ℕ) (hw : lw ≤ mostLog2) (hh : lh ≤ mostLog2) (r : List �
 
     -- the second stage on them is the double sum
     pub stages-are-product : (u v : ℕ) → u < 2 ^ lw → stageAt matrix (2 ^ lh) b u v ≡ product r (2 ^ lw) (2 ^ lh) v u
-    unfolding stageAt product
-    stages-are-product u v hu =
-        let w = 2 ^ lw in
-        let h = 2 ^ lh in
-        sum-ext onℤ h (λ y. matrix h v y *ℤ at b (u * h + y))
-        (λ y. sumℤ w (λ x. (matrix h v y *ℤ matrix w u x) *ℤ at r (y * w + x)))
-        (λ y hy.
-        ap (λ (z : ℤ). matrix h v y *ℤ z) (sb y u hy hu)
-        ∙ sym (sum-times w (matrix h v y) (λ x. matrix w u x *ℤ at r (y * w + x)))
-        ∙ sum-ext onℤ w (λ x. matrix h v y *ℤ (matrix w u x *ℤ at r (y * w + x)))
-        (λ x. (matrix h v y *ℤ matrix w u x) *ℤ at r (y * w + x))
-        (λ x hx. sym (*-assoc (matrix h v y) (matrix w u x) (at r (y * w + x)))))
+    unfolding product
+    stages-are-product u v hu = two-stages matrix (2 ^ lw) (2 ^ lh) r b u v (λ y hy. sb y u hy hu)
 
     second-bound : (u v : ℕ) → u < 2 ^ lw → v < 2 ^ lh
         → natAbs (stageAt matrix (2 ^ lh) b u v) ≤ 32736 * 2 ^ (7 + lw + lh)

@@ -8,10 +8,7 @@ use lib.IntN.{ℤ, natAbs}
 use Rattle.integers.specs.Tests.{some}
 use Rattle.refusals.specs.declared.Refusal.the-variants.{Side, Length, Sample}
 use Rattle.refusals.specs.Sides.{mostLog2}
-use Rattle.refusals.specs.Numbers.{numberOf}
-use Rattle.refusals.specs.Faults.{Fault, ofNone, outside, Outcome, refused, passed, verdict, ifAccepted}
-use Rattle.transform.specs.declared.TransAnswer.{TransAnswer}
-use Rattle.transform.specs.declared.TransAnswer.the-variants.{Accepted, Refused}
+use Rattle.refusals.specs.Faults.{Fault, ofNone, outside, Outcome, verdict, ifAccepted}
 use Rattle.transform.specs.Coefficients.{coefficients}
 
 -- the inputs: a buffer that begins with the residuals of a block by rows, and the block's log2 sides
@@ -50,14 +47,10 @@ unfoldable pub transFaults : List (Fault Trans)
 unfolding sideFault lengthFault sampleFault
 transFaults = sideFault ∷ lengthFault ∷ sampleFault ∷ []
 
--- the answer, which is the verdict, and what code answers by the paper's numbers
+-- the answer, which is the verdict
 unfoldable pub transVerdict : Trans → Outcome Unit
 unfolding transFaults verdict
 transVerdict t = verdict transFaults t
-
-abbrev pub transOutcome : TransAnswer → Outcome Unit
-transOutcome Accepted = passed
-transOutcome (Refused why) = refused (numberOf why) 0
 
 -- an accepted buffer holds the coefficients in front, and its surplus; a refused one what it held
 unfoldable pub transformed : Trans → List ℤ

@@ -1,5 +1,6 @@
 // The whole block, its samples known to be in range: both stages, and the rounding behind them.
 use halves::half_stage;
+use refusals::side;
 use rounding::settle;
 use rounding::widen;
 use stages::stage;
@@ -10,26 +11,6 @@ ghost use lib.IntN.{natAbs};
 ghost use Rattle.integers.specs.Sum.{at};
 ghost use Rattle.refusals.specs.Sides.{mostLog2};
 ghost use Rattle.transform.specs.Coefficients.{coefficients};
-
-// By cases, so that the compiler knows how large it can be.
-pub fn side(log2: usize) -> usize
-    requires { ⌜ (1 ≤ log2) × (log2 ≤ mostLog2) ⌝ }
-    ensures { λ r. ⌜ (r ≡ 2 ^ log2) × (r ≤ 32) ⌝ }
-{
-    if log2 == 1 {
-        return 2;
-    }
-    if log2 == 2 {
-        return 4;
-    }
-    if log2 == 3 {
-        return 8;
-    }
-    if log2 == 4 {
-        return 16;
-    }
-    32
-}
 
 fn both_stages(block: &mut [i16], a: &mut [i32], b: &mut [i32], lw: usize, lh: usize)
     requires { ⌜ (1 ≤ lw) × (lw ≤ mostLog2) × (1 ≤ lh) × (lh ≤ mostLog2) ⌝ }

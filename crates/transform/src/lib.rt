@@ -1,20 +1,16 @@
 // The forward transform of a block of residuals: both stages, and the one rounding behind them. Its contracts speak of
 // the double sum over the block, never of stages, and of what is refused and in which order.
-use block::side;
 use block::transform;
 use refusals::Refusal;
+use refusals::Verdict;
 use refusals::no_side;
+use refusals::side;
 ghost use mathlib.Core.Path.{_≡_};
 ghost use Rattle.integers.specs.Tests.{some};
-ghost use Rattle.transform.specs.Call.{called, transOutcome, transBuffer, transVerdict, wild};
+ghost use Rattle.refusals.specs.Faults.{verdictOutcome};
+ghost use Rattle.transform.specs.Call.{called, transBuffer, transVerdict, wild};
 
 mod block;
-
-// An accepted transform answers only that it was accepted; a fault of it belongs to no component.
-pub enum TransAnswer {
-    Accepted,
-    Refused(Refusal),
-}
 
 // Whether some residual is outside ±1023.
 pub fn has_wild(block: &[i16]) -> bool
@@ -32,23 +28,23 @@ pub fn has_wild(block: &[i16]) -> bool
 }
 
 // The residuals of a block at the front of the buffer, by rows, become its coefficients.
-pub fn trans(block: &mut [i16], log2_w: usize, log2_h: usize) -> TransAnswer
-    ensures answer { λ r. ⌜ transOutcome r ≡ transVerdict (called (now (block .entry)) «log2_w» «log2_h») ⌝ }
+pub fn trans(block: &mut [i16], log2_w: usize, log2_h: usize) -> Verdict
+    ensures answer { λ r. ⌜ verdictOutcome r ≡ transVerdict (called (now (block .entry)) «log2_w» «log2_h») ⌝ }
     ensures buffer { λ _. ⌜ now (block .exit) ≡ transBuffer (called (now (block .entry)) «log2_w» «log2_h») ⌝ }
 {
     if no_side(log2_w) {
-        return TransAnswer::Refused(Refusal::Side);
+        return Verdict::Refused(Refusal::Side);
     }
     if no_side(log2_h) {
-        return TransAnswer::Refused(Refusal::Side);
+        return Verdict::Refused(Refusal::Side);
     }
     let n = side(log2_w) * side(log2_h);
     if block.len() < n {
-        return TransAnswer::Refused(Refusal::Length);
+        return Verdict::Refused(Refusal::Length);
     }
     if has_wild(&block[..n]) {
-        return TransAnswer::Refused(Refusal::Sample);
+        return Verdict::Refused(Refusal::Sample);
     }
     transform(&mut block[..n], log2_w, log2_h);
-    TransAnswer::Accepted
+    Verdict::Accepted
 }

@@ -4,15 +4,17 @@ use mathlib.Core.List.{List, [], _∷_}
 use Prim.Native.Nat.{ℕ}
 use lib.Dec.{eqb}
 use Rattle.verbs.specs.declared.Verb.{Verb}
-use Rattle.verbs.specs.declared.Verb.the-variants.{Transform, Quantise, SubBlock}
+use Rattle.verbs.specs.declared.Verb.the-variants.{Transform, Quantise, SubBlock, ScaleBack, Inverse}
 use Rattle.verbs.specs.declared.Named.{Named}
 use Rattle.verbs.specs.declared.Named.the-variants.{Is, Malformed}
 
--- `transform`, `quantise`, `subblock`
+-- `transform`, `quantise`, `subblock`, `scaleback`, `inverse`
 abbrev pub wordOf : Verb → List ℕ
 wordOf Transform = 116 ∷ 114 ∷ 97 ∷ 110 ∷ 115 ∷ 102 ∷ 111 ∷ 114 ∷ 109 ∷ []
 wordOf Quantise = 113 ∷ 117 ∷ 97 ∷ 110 ∷ 116 ∷ 105 ∷ 115 ∷ 101 ∷ []
 wordOf SubBlock = 115 ∷ 117 ∷ 98 ∷ 98 ∷ 108 ∷ 111 ∷ 99 ∷ 107 ∷ []
+wordOf ScaleBack = 115 ∷ 99 ∷ 97 ∷ 108 ∷ 101 ∷ 98 ∷ 97 ∷ 99 ∷ 107 ∷ []
+wordOf Inverse = 105 ∷ 110 ∷ 118 ∷ 101 ∷ 114 ∷ 115 ∷ 101 ∷ []
 
 -- whether two words have the same bytes
 unfoldable pub sameBytes : List ℕ → List ℕ → Bool
@@ -26,4 +28,6 @@ unfolding sameBytes
 verbOf w =
     cond (sameBytes w (wordOf Transform)) (Is Transform)
     (cond (sameBytes w (wordOf Quantise)) (Is Quantise)
-    (cond (sameBytes w (wordOf SubBlock)) (Is SubBlock) Malformed))
+    (cond (sameBytes w (wordOf SubBlock)) (Is SubBlock)
+    (cond (sameBytes w (wordOf ScaleBack)) (Is ScaleBack)
+    (cond (sameBytes w (wordOf Inverse)) (Is Inverse) Malformed))))

@@ -7,6 +7,8 @@ pub enum Verb {
     Transform,
     Quantise,
     SubBlock,
+    ScaleBack,
+    Inverse,
 }
 
 pub enum Named {
@@ -25,6 +27,12 @@ pub fn read_verb(word: &[u8]) -> Named
     }
     if same(word, b"subblock") {
         return Named::Is(Verb::SubBlock);
+    }
+    if same(word, b"scaleback") {
+        return Named::Is(Verb::ScaleBack);
+    }
+    if same(word, b"inverse") {
+        return Named::Is(Verb::Inverse);
     }
     Named::Malformed
 }

@@ -3,24 +3,22 @@
 // the numbers ask for.
 use quantise::quant_nnz;
 use refusals::Component;
-use refusals::number;
 use subblock::sub_block_tq;
 use surface::coding_of;
 use surface::put_quant;
 use surface::put_three;
 use surface::request_of;
-use transform::TransAnswer;
+use surface::result_of;
 use transform::trans;
 ghost use Rattle.transform.specs.Call.{called};
-ghost use Rattle.surface.specs.Surface.{TransLeft, quantAsked, QuantLeft, threeAsked, ThreeLeft};
+ghost use Rattle.decoding.specs.Call.{levelsLent, coefficientsLent};
+ghost use Rattle.surface.specs.Surface.{TransLeft, ScaleLeft, InverseLeft};
+ghost use Rattle.surface.specs.Surface.{quantAsked, QuantLeft, threeAsked, ThreeLeft};
 
 pub fn transform(block: &mut [i16], log2_w: usize, log2_h: usize) -> u32
     ensures { λ r. ⌜ TransLeft (called (now (block .entry)) «log2_w» «log2_h») r (now (block .exit)) ⌝ }
 {
-    match trans(block, log2_w, log2_h) {
-        TransAnswer::Accepted => 0,
-        TransAnswer::Refused(why) => number(why),
-    }
+    result_of(trans(block, log2_w, log2_h))
 }
 
 pub fn quantise(
@@ -57,4 +55,16 @@ pub fn sub_block(
 {
     let q = request_of(log2_luma, qp, lambda, run, flags);
     put_three(sub_block_tq(buffer, costs, q), answer)
+}
+
+pub fn scale_back(block: &mut [i16], log2_side: usize, qp: u32) -> u32
+    ensures { λ r. ⌜ ScaleLeft (levelsLent (now (block .entry)) «log2_side» qp) r (now (block .exit)) ⌝ }
+{
+    result_of(residuals::scale_back(block, log2_side, qp))
+}
+
+pub fn inverse(block: &mut [i16], log2_w: usize, log2_h: usize) -> u32
+    ensures { λ r. ⌜ InverseLeft (coefficientsLent (now (block .entry)) «log2_w» «log2_h») r (now (block .exit)) ⌝ }
+{
+    result_of(residuals::inverse(block, log2_w, log2_h))
 }

@@ -1,9 +1,9 @@
 -- `calls::call` meets its contract: the call of each verb, by the fields in front.
 -- Assumes nothing.
 use borrow.Author.Needs.{needs}
-use Rattle.verbs.specs.declared.Verb.the-variants.{Transform, Quantise, SubBlock}
+use Rattle.verbs.specs.declared.Verb.the-variants.{Transform, Quantise, SubBlock, ScaleBack, Inverse}
 use Rattle.calls.specs.Calls.{answered}
-use Rattle.calls.proofs.Fields.{by-verb, quantise-short, sub-block-short}
+use Rattle.calls.proofs.Fields.{by-verb, quantise-short, sub-block-short, scale-back-short}
 use Rattle.calls.proofs.call.Statement.{statement}
 use Rattle.calls.proofs.call.Tie as tie
 
@@ -35,6 +35,22 @@ call-sub-block-requires c κs =
     let short = sub-block-short (args .verb) (args .fields .now) (told .enum-told3 .given .1) (start .pre .0) in
     (short .0, short .1, short .2, short .3, short .4, start .pre .1)
 
+enum-told-4 : tie.Need-enum-told-4
+enum-told-4 c = search needs
+
+call-scale-back-requires : tie.Need-call-scale-back-requires
+call-scale-back-requires c κs =
+    let told = c .before in
+    let start = told .before .before .before in
+    let args = start .args in
+    (scale-back-short (args .verb) (args .fields .now) (told .enum-told4 .given .1) (start .pre .0), start .pre .1)
+
+enum-told-5 : tie.Need-enum-told-5
+enum-told-5 c = search needs
+
+call-inverse-requires : tie.Need-call-inverse-requires
+call-inverse-requires c κs = search needs
+
 same-length : tie.Need-same-length
 same-length c = search needs
 
@@ -62,6 +78,24 @@ returns-3 c =
     let made = c .before in
     by-verb _ _ SubBlock (made .before .before .enum-told3 .given .1) _ _ _ _ (made .call-sub-block .ensures)
 
+same-length-4 : tie.Need-same-length-4
+same-length-4 c = search needs
+
+returns-4 : tie.Need-returns-4
+unfolding answered
+returns-4 c =
+    let made = c .before in
+    by-verb _ _ ScaleBack (made .before .before .enum-told4 .given .1) _ _ _ _ (made .call-scale-back .ensures)
+
+same-length-5 : tie.Need-same-length-5
+same-length-5 c = search needs
+
+returns-5 : tie.Need-returns-5
+unfolding answered
+returns-5 c =
+    let made = c .before in
+    by-verb _ _ Inverse (made .before .before .enum-told5 .given .1) _ _ _ _ (made .call-inverse .ensures)
+
 pub call-spec : {M : Type 1} → statement M
 call-spec =
     tie.close
@@ -72,9 +106,17 @@ call-spec =
     call-quantise-requires
     enum-told-3
     call-sub-block-requires
+    enum-told-4
+    call-scale-back-requires
+    enum-told-5
+    call-inverse-requires
     same-length
     returns
     same-length-2
     returns-2
     same-length-3
-    returns-3)
+    returns-3
+    same-length-4
+    returns-4
+    same-length-5
+    returns-5)

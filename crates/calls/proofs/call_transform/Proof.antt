@@ -3,7 +3,7 @@
 use mathlib.Core.List.{[], _∷_}
 use native.Mathlib.Omega.{arith}
 use borrow.Author.Needs.{needs}
-use Rattle.calls.proofs.Shown.{replied, trans-shown}
+use Rattle.calls.proofs.Shown.{replied, verdict-shown}
 use Rattle.calls.proofs.call_transform.Statement.{statement}
 use Rattle.calls.proofs.call_transform.Tie as tie
 
@@ -26,7 +26,7 @@ returns : tie.Need-returns
 returns c =
     let made = c .before .before .galemosu-transform in
     replied (made .result) 0 0 (0 ∷ 0 ∷ 0 ∷ 0 ∷ 0 ∷ 0 ∷ []) _ (made .last .0) _ _ (c .reply-by .ensures) (omega arith)
-    (made .kept .0) (trans-shown _ _ _ (made .ensures))
+    (made .kept .0) (verdict-shown _ _ _ _ (made .ensures))
 
 pub call-transform-spec : {M : Type 1} → statement M
 call-transform-spec =

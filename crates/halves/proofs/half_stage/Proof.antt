@@ -113,7 +113,7 @@ loop-again c =
     let l = t .before .loop in
     let p = stored .store-row in
     passed-more matrix half 5 32 (a .src .now) (a .dst .now) (l .dst) (p .last .1 .1 .0)
-    (x .half-line .last .1 .1 .1 .1 .1 .0) (l .j) (omega arith) (omega arith) (x .half-line .ensures) (p .ensures)
+    _ (l .j) (omega arith) (omega arith) (x .half-line .ensures) (p .ensures)
     (l .inv)
 
 same-length : tie.Need-same-length Inv-loop μ-loop

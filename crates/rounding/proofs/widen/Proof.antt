@@ -1,17 +1,15 @@
 -- `rounding::widen` meets its contract: the first i samples are stored.
 -- Assumes nothing.
 use mathlib.Core.Path.{_≡_, refl}
-use Prim.Native.Nat.{_-_, _^_, _≤_}
+use Prim.Native.Nat.{_-_, _≤_}
 use native.Mathlib.Omega.{arith}
 use borrow.Author.Needs.{sfits-of}
 use borrow.Author.Count.{below-none}
-use lib.Dec.{lit<}
 use lib.ListN.{length, length-set}
-use lib.IntN.{ℤ, pos}
+use lib.IntN.{pos}
 use mir.Syntax.{w16, w32}
-use mir.Val.{SFits}
 use Rattle.integers.specs.Sum.{at}
-use Rattle.integers.proofs.Fit.{fits-within, cast-fits, cast-is, magnitude-of}
+use Rattle.integers.proofs.Fit.{wider, cast-fits, cast-is}
 use Rattle.integers.proofs.Fill.{Filled, filled-more}
 use Rattle.rounding.proofs.widen.Statement.{statement}
 use Rattle.rounding.proofs.widen.Tie as tie
@@ -21,10 +19,6 @@ Inv-loop block wide₀ n i₀ wide i = (i ≤ length block) × (length wide ≡ 
 
 abbrev μ-loop : tie.MeasureT-loop
 μ-loop block wide₀ n i₀ wide i = length block - i
-
--- what fits 16 bits fits 32
-wider : (z : ℤ) → SFits w16 z → SFits w32 z
-wider z f = fits-within z (2 ^ 15) (magnitude-of z f) (lit< tt)
 
 loop-holds : tie.Need-loop-holds Inv-loop μ-loop
 loop-holds c = (omega arith, refl, below-none _)

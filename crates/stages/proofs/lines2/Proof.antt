@@ -77,7 +77,7 @@ loop-again c =
     let l = t .before .loop in
     let p = stored .store-row in
     passed-more matrix (λ z. z) 1 (a .lines) (a .src .now) (a .dst .now) (l .dst) (p .last .1 .1 .0)
-    (x .line2 .last .1 .0) (l .j) (omega arith) (omega arith) (x .line2 .ensures .holds) (p .ensures) (l .inv)
+    _ (l .j) (omega arith) (omega arith) (x .line2 .ensures .holds) (p .ensures) (l .inv)
 
 same-length : tie.Need-same-length Inv-loop μ-loop
 same-length c = c .before .loop .inv .1

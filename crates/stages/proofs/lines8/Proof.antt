@@ -95,7 +95,7 @@ loop-again c =
     let l = t .before .loop in
     let p = stored .store-row in
     passed-more matrix (λ z. z) 3 (a .lines) (a .src .now) (a .dst .now) (l .dst) (p .last .1 .1 .0)
-    (x .line8 .last .1 .1 .1 .0) (l .j) (omega arith) (omega arith)
+    _ (l .j) (omega arith) (omega arith)
     (x .line8 .ensures .holds) (p .ensures) (l .inv)
 
 same-length : tie.Need-same-length Inv-loop μ-loop

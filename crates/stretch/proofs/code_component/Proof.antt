@@ -6,8 +6,7 @@ use mathlib.Core.Bool.{true, false}
 use Prim.Native.Nat.{ℕ}
 use native.Mathlib.Omega.{arith}
 use borrow.Author.Needs.{needs}
-use Rattle.refusals.specs.Faults.{passed}
-use Rattle.transform.specs.Call as trans
+use Rattle.refusals.specs.Faults.{passed, verdictOutcome}
 use Rattle.price.specs.Costs.{costsOf}
 use Rattle.components.specs.Call.{bit}
 use Rattle.stretch.specs.Inner.Part.{partAnswer, partLeft}
@@ -62,11 +61,11 @@ returns c =
     let log2 = settled t .before .log2-of in
     let s = start (begun t) in
     let a = s .args in
-    let e : trans.transOutcome (t .trans .result) ≡ passed =
+    let e : verdictOutcome (t .trans .result) ≡ passed =
     t .trans .ensures .0
     ∙ trans-passes (a .component) (costsOf (a .costs .now)) (a .q) (a .part .now) (s .pre) (is-run (begun t))
     (log2 .result) (log2 .ensures) in
-    let g = sym (ap trans.transOutcome (refused .t .given .1)) ∙ e in
+    let g = sym (ap verdictOutcome (refused .t .given .1)) ∙ e in
     let z : _≡_ {A = ℕ} 0 1 = cc in
     absurd (let no : ⊥ = omega arith in no)
 

@@ -5,7 +5,7 @@ use mathlib.Core.Bool.{false}
 use mathlib.Core.List.{List}
 use Prim.Native.Nat.{ℕ}
 use borrow.Author.Needs.{needs}
-use Rattle.verbs.specs.declared.Verb.the-variants.{Transform, Quantise, SubBlock}
+use Rattle.verbs.specs.declared.Verb.the-variants.{Transform, Quantise, SubBlock, ScaleBack, Inverse}
 use Rattle.verbs.specs.Verbs.{wordOf, sameBytes, verbOf}
 use Rattle.verbs.proofs.Apart.{compared}
 use Rattle.verbs.proofs.read_verb.Statement.{statement}
@@ -19,12 +19,24 @@ word c = let called = c .before .before in called .before .before .args .word .n
 abbrev first : tie.Else2 → tie.Else1
 first c = c .before .before .before
 
+abbrev second : tie.Else3 → tie.Else2
+second c = c .before .before .before
+
+abbrev third : tie.Else4 → tie.Else3
+third c = c .before .before .before
+
 -- what was said to those that were passed
 no-transform : (c : tie.Else1) → sameBytes (word c) (wordOf Transform) ≡ false
 no-transform c = let s = c .before .same .ensures in compared _ _ _ (s .0) (s .1) ∙ c .if1 .left
 
 no-quantise : (c : tie.Else2) → sameBytes (word (first c)) (wordOf Quantise) ≡ false
 no-quantise c = let s = c .before .same2 .ensures in compared _ _ _ (s .0) (s .1) ∙ c .if2 .left
+
+no-sub-block : (c : tie.Else3) → sameBytes (word (first (second c))) (wordOf SubBlock) ≡ false
+no-sub-block c = let s = c .before .same3 .ensures in compared _ _ _ (s .0) (s .1) ∙ c .if3 .left
+
+no-scale-back : (c : tie.Else4) → sameBytes (word (first (second (third c)))) (wordOf ScaleBack) ≡ false
+no-scale-back c = let s = c .before .same4 .ensures in compared _ _ _ (s .0) (s .1) ∙ c .if4 .left
 
 slice-aggregate-same : tie.Need-slice-aggregate-same
 slice-aggregate-same c = search needs
@@ -63,12 +75,58 @@ returns-3 c =
     let s = c .before .same3 .ensures in
     rw (no-transform (first passed), no-quantise passed, compared _ _ _ (s .0) (s .1), c .if3 .taken)
 
+slice-aggregate-same-4 : tie.Need-slice-aggregate-same-4
+slice-aggregate-same-4 c = search needs
+
+same-requires-4 : tie.Need-same-requires-4
+same-requires-4 c κs = search needs
+
 returns-4 : tie.Need-returns-4
 unfolding verbOf
 returns-4 c =
     let passed = c .before .before .before in
-    let s = c .before .same3 .ensures in
-    rw (no-transform (first passed), no-quantise passed, compared _ _ _ (s .0) (s .1), c .if3 .left)
+    let s = c .before .same4 .ensures in
+    rw (
+      no-transform (first (second passed)),
+      no-quantise (second passed),
+      no-sub-block passed,
+      compared _ _ _ (s .0) (s .1),
+      c .if4 .taken,
+    )
+
+slice-aggregate-same-5 : tie.Need-slice-aggregate-same-5
+slice-aggregate-same-5 c = search needs
+
+same-requires-5 : tie.Need-same-requires-5
+same-requires-5 c κs = search needs
+
+returns-5 : tie.Need-returns-5
+unfolding verbOf
+returns-5 c =
+    let passed = c .before .before .before in
+    let s = c .before .same5 .ensures in
+    rw (
+      no-transform (first (second (third passed))),
+      no-quantise (second (third passed)),
+      no-sub-block (third passed),
+      no-scale-back passed,
+      compared _ _ _ (s .0) (s .1),
+      c .if5 .taken,
+    )
+
+returns-6 : tie.Need-returns-6
+unfolding verbOf
+returns-6 c =
+    let passed = c .before .before .before in
+    let s = c .before .same5 .ensures in
+    rw (
+      no-transform (first (second (third passed))),
+      no-quantise (second (third passed)),
+      no-sub-block (third passed),
+      no-scale-back passed,
+      compared _ _ _ (s .0) (s .1),
+      c .if5 .left,
+    )
 
 pub read-verb-spec : {M : Type 1} → statement M
 read-verb-spec =
@@ -83,4 +141,10 @@ read-verb-spec =
     slice-aggregate-same-3
     same-requires-3
     returns-3
-    returns-4)
+    slice-aggregate-same-4
+    same-requires-4
+    returns-4
+    slice-aggregate-same-5
+    same-requires-5
+    returns-5
+    returns-6)

@@ -35,6 +35,24 @@ slice-aggregate-read-fields-3 c = search needs
 read-fields-requires-3 : tie.Need-read-fields-requires-3
 read-fields-requires-3 c κs = search needs
 
+enum-told-4 : tie.Need-enum-told-4
+enum-told-4 c = search needs
+
+slice-aggregate-read-fields-4 : tie.Need-slice-aggregate-read-fields-4
+slice-aggregate-read-fields-4 c = search needs
+
+read-fields-requires-4 : tie.Need-read-fields-requires-4
+read-fields-requires-4 c κs = search needs
+
+enum-told-5 : tie.Need-enum-told-5
+enum-told-5 c = search needs
+
+slice-aggregate-read-fields-5 : tie.Need-slice-aggregate-read-fields-5
+slice-aggregate-read-fields-5 c = search needs
+
+read-fields-requires-5 : tie.Need-read-fields-requires-5
+read-fields-requires-5 c κs = search needs
+
 returns : tie.Need-returns
 returns c = rw (c .before .before .before .enum-told .given .1) (c .read-fields .ensures)
 
@@ -43,6 +61,12 @@ returns-2 c = rw (c .before .before .before .enum-told2 .given .1) (c .read-fiel
 
 returns-3 : tie.Need-returns-3
 returns-3 c = rw (c .before .before .before .enum-told3 .given .1) (c .read-fields3 .ensures)
+
+returns-4 : tie.Need-returns-4
+returns-4 c = rw (c .before .before .before .enum-told4 .given .1) (c .read-fields4 .ensures)
+
+returns-5 : tie.Need-returns-5
+returns-5 c = rw (c .before .before .before .enum-told5 .given .1) (c .read-fields5 .ensures)
 
 pub read-head-spec : {M : Type 1} → statement M
 read-head-spec =
@@ -57,6 +81,14 @@ read-head-spec =
     enum-told-3
     slice-aggregate-read-fields-3
     read-fields-requires-3
+    enum-told-4
+    slice-aggregate-read-fields-4
+    read-fields-requires-4
+    enum-told-5
+    slice-aggregate-read-fields-5
+    read-fields-requires-5
     returns
     returns-2
-    returns-3)
+    returns-3
+    returns-4
+    returns-5)

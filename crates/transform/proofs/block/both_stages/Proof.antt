@@ -13,7 +13,8 @@ use Rattle.tables.specs.Matrix.{matrix}
 use Rattle.stages.specs.Inner.Stages.{Staged}
 use Rattle.halves.specs.Inner.Halves.{half}
 use Rattle.transform.proofs.Whole.{first-within, second-room, settle-within, settled, widened-room}
-use Rattle.transform.proofs.Whole.{widened-stage, lines-by-side, side-by-lines, largest, half-same, half-less}
+use Rattle.stages.proofs.Sizes.{lines-by-side, side-by-lines}
+use Rattle.transform.proofs.Whole.{widened-stage, largest, half-same, half-less}
 use Rattle.transform.proofs.block.both_stages.Statement.{statement}
 use Rattle.transform.proofs.block.both_stages.Tie as tie
 

@@ -9,7 +9,7 @@ use lib.IntN.{natAbs}
 use Rattle.integers.specs.Sum.{at}
 use Rattle.refusals.specs.Sides.{mostLog2}
 use Rattle.butterfly.proofs.OddHalf.{noughts, noughts-part}
-use Rattle.transform.proofs.Whole.{at-most-1024}
+use Rattle.stages.proofs.Sizes.{at-most-1024}
 use Rattle.transform.proofs.block.transform.Statement.{statement}
 use Rattle.transform.proofs.block.transform.Tie as tie
 

@@ -1,0 +1,5 @@
+pub mod Numbers
+pub mod Scaling
+pub mod Promises
+pub mod Coincide
+pub mod Two

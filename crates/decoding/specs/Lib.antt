@@ -1,0 +1,3 @@
+pub mod Scaling
+pub mod Inverse
+pub mod Call

@@ -1,0 +1,4 @@
+pub mod Gap
+pub mod Number
+pub mod Header
+pub mod Samples

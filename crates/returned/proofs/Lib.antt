@@ -1,0 +1,2 @@
+pub mod Side2
+pub mod Numbers

@@ -1,0 +1,13 @@
+-- `tables::odd_rows::narrow_2` meets its contract: antt computes that the listed numbers are the matrix's.
+-- Assumes nothing.
+use mathlib.Core.Path.{refl}
+use Rattle.tables.specs.Inner.OddRows.{oddRows}
+use Rattle.tables.proofs.odd_rows.narrow_2.Statement.{statement}
+use Rattle.tables.proofs.odd_rows.narrow_2.Tie as tie
+
+returns : tie.Need-returns
+unfolding oddRows
+returns c = refl
+
+pub narrow-2-spec : {M : Type 1} → statement M
+narrow-2-spec = tie.close (tie.spec returns)

@@ -1,0 +1,4 @@
+pub mod Level
+pub mod Step
+pub mod Pair
+pub mod Line

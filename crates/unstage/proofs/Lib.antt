@@ -1,0 +1,5 @@
+pub mod Lines
+pub mod Odd
+pub mod Loop
+pub mod Unfolding
+pub mod Halves
