@@ -1,15 +1,18 @@
-"""label_text.py [QP [MILLIONTHS]] < crates/label/stdin > crates/label/stdout: what the program `label` must write when
-it is called with the words of crates/label/args, worked out by tools/paper.py and, for what the viewer does, by the two
-formulas of ticket 6 as they stand there: each level by itself, and the double sum over all coefficients.
+"""label_text.py [QP [MILLIONTHS [HEIGHT]]] < crates/label/stdin > crates/label/stdout: what the program `label` must
+write when it is called with the words of crates/label/args, worked out by tools/paper.py and, for what the viewer does,
+by the two formulas of ticket 6 as they stand there: each level by itself, and the double sum over all coefficients. A
+block that no candidate brings within the height ends it, with what `label` says then.
 
 The program's own answer is no part of it.
 """
 import sys
 from decimal import Decimal, getcontext, ROUND_HALF_UP
-from paper import Paper, Costs, Y
+from paper import Paper, Costs, Refused, Y
 
 getcontext().prec = 60
 SIDE, LOG2, GUESS, WHITE = 8, 3, 700, 1023
+LUMA = 1
+UNBOUNDED = 65535
 COSTS = Costs(
     [21000, 48000, 37000, 26000, 21000, 48000, 37000, 26000]
     + [18000, 52000, 24000, 40000, 18000, 52000, 24000, 40000]
@@ -19,12 +22,16 @@ BACK = [40, 45, 51, 57, 64, 72]
 GREYS = "@%#*+=-:. "
 ACROSS = 56
 LEGEND = """QP is the slice's plus 12; lambda is what a bit may cost, in squared error of samples of 8 bits.
-Samples are of 10 bits, 0 (black) to 1023 (white), scaled from the picture's 0 to %d. Coded is the sample
+%sSamples are of 10 bits, 0 (black) to 1023 (white), scaled from the picture's 0 to %d. Coded is the sample
 less a guess, 700 everywhere. Left is what the camera saw, right what the viewer shows of the levels.
 Where the picture ends inside a block its last column and row are repeated, and not compared.
+Darker and lighter under a block are of all its samples, the repeated ones too, before they are clipped.
 Under a block stand its levels by rows, one for each pattern: the coefficient by its step, to the
 nearest (kept), one less (v: lowered), or 0 where that is not 0 (x: dropped). Others never come.
 A price is squared error plus lambda times bits; in brackets as the call reports it, times 2^30."""
+OF_HEIGHT = "Height is how much darker and how much lighter than the camera saw it a sample may be shown.\n"
+PROVED = """No sample of an accepted block can be off by more than the height, %d: that is proved, before clipping
+and any filter, with the picture's last column and row repeated outside."""
 
 
 # ---- the viewer's half, by ticket 6
@@ -106,10 +113,10 @@ def row_of(samples):
 
 
 class Page:
-    """The page of a picture at a QP and lambda, and what it shows."""
+    """The page of a picture at a QP and lambda, within a height or None, and what it shows."""
 
-    def __init__(self, picture, qp, millionths):
-        self.picture, self.qp, self.millionths = picture, qp, millionths
+    def __init__(self, picture, qp, millionths, height):
+        self.picture, self.qp, self.millionths, self.height = picture, qp, millionths, height
         self.paper = Paper()
         self.shown = [None] * len(picture.samples)
         self.counts = {}
@@ -137,11 +144,25 @@ class Page:
                 apart = max(apart, abs(a - b))
         return apart
 
+    def coded(self, at, residuals):
+        """Count, price, both extremes and levels of block `at`."""
+        height = UNBOUNDED if self.height is None else self.height
+        room = residuals + [0] * (SIDE * SIDE // 2)
+        try:
+            answers, after = self.paper.guarded_sub_block(
+                room, LOG2, LUMA, [self.qp] * 3, [self.millionths / 1e6] * 3, True, True, COSTS, [height] * 6)
+        except Refused as refused:
+            sys.stdout.flush()
+            sys.exit("label: block %d can't be brought within the height at this QP" % (at + 1)
+                     if refused.number == 15 else "label: the quantiser refuses a block at this QP and lambda")
+        return *answers[Y], after[:SIDE * SIDE]
+
     def block(self, at, top, left):
         paper, qp = self.paper, self.qp
         seen = [self.picture.sample(top + y, left + x) for y in range(SIDE) for x in range(SIDE)]
-        coefficients = paper.coefficients([v - GUESS for v in seen], LOG2, LOG2)
-        count, price, levels = paper.coded(coefficients, LOG2, Y, qp, self.millionths / 1e6, True, True, COSTS)
+        residuals = [v - GUESS for v in seen]
+        coefficients = paper.coefficients(residuals, LOG2, LOG2)
+        count, price, darker, lighter, levels = self.coded(at, residuals)
         back = [scaled_back(level, qp) for level in levels]
         matrix = paper.matrix(LOG2)
         view = [
@@ -150,6 +171,7 @@ class Page:
         for k in range(0, SIDE * SIDE, SIDE):
             print(row_of(seen[k:k + SIDE]) + "    " + row_of(view[k:k + SIDE]))
         print("largest difference of a sample %d" % self.difference(top, left, seen, view))
+        print("darker by %d at most, lighter by %d at most" % (darker, lighter))
         counts = self.levels(coefficients, levels)
         hundredths = price * 100 >> 30
         print("%s; %d levels, price %d.%02d (%d)" % (
@@ -166,12 +188,18 @@ class Page:
             row = slice(y * width, (y + 1) * width, step)
             left, right = ("".join(GREYS[v // 103] for v in of[row]) for of in (picture.samples, self.shown))
             print(left.ljust(width // step + 5) + right)
-        apart = [abs(a - b) for a, b in zip(picture.samples, self.shown)]
-        most = max(apart)
-        at = apart.index(most)
-        print("largest difference of a sample in the whole %d, in row %d, column %d, where the camera saw %d; "
-              "both count from 0." % (most, at // width, at % width, picture.samples[at]))
-        print("It is what came of this picture: nothing is proved of how large it can be.")
+        print("largest difference of a sample in the whole %s; both count from 0." % self.worst(
+            [abs(a - b) for a, b in zip(picture.samples, self.shown)]))
+        print("largest darkening of a sample in the whole %s." % self.worst(
+            [max(a - b, 0) for a, b in zip(picture.samples, self.shown)]))
+        print("They are what came of this picture: nothing is proved of how large they can be."
+              if self.height is None else PROVED % self.height)
+
+    def worst(self, by):
+        """The largest of numbers of samples, and where the first such is."""
+        at, width = by.index(max(by)), self.picture.width
+        return "%d, in row %d, column %d, where the camera saw %d" % (
+            by[at], at // width, at % width, self.picture.samples[at])
 
     def pgm(self):
         picture, width = self.picture, self.picture.width
@@ -182,10 +210,11 @@ class Page:
 
     def write(self):
         picture = self.picture
-        print("A picture of %d by %d in blocks of 8 by 8, coded at QP %d, lambda %d.%06d, "
+        print("A picture of %d by %d in blocks of 8 by 8, coded at QP %d, lambda %d.%06d%s, "
               "and shown as the viewer shows it." % (
-                  picture.width, picture.height, self.qp, self.millionths // 10 ** 6, self.millionths % 10 ** 6))
-        print(LEGEND % picture.most)
+                  picture.width, picture.height, self.qp, self.millionths // 10 ** 6, self.millionths % 10 ** 6,
+                  "" if self.height is None else ", height %d" % self.height))
+        print(LEGEND % ("" if self.height is None else OF_HEIGHT, picture.most))
         corners = [(y, x) for y in range(0, picture.height, SIDE) for x in range(0, picture.width, SIDE)]
         for at, (top, left) in enumerate(corners):
             self.block(at, top, left)
@@ -197,7 +226,8 @@ class Page:
 def main():
     qp = int(sys.argv[1]) if len(sys.argv) > 1 else 34
     millionths = int(sys.argv[2]) if len(sys.argv) > 2 else usual(qp)
-    Page(Picture(sys.stdin.buffer.read()), qp, millionths).write()
+    height = int(sys.argv[3]) if len(sys.argv) > 3 else None
+    Page(Picture(sys.stdin.buffer.read()), qp, millionths, height).write()
 
 
 main()

@@ -1,5 +1,5 @@
-"""Document 01, document 02's viewer's half and second mode (its tickets 6 and 9) and the line protocol in Python's
-whole numbers, sentence by sentence. It shares nothing with the crates, and stands in for nothing of theirs: recorded
+"""Document 01, document 02's viewer's half and second mode (its tickets 6 and 9), the guarded block and the line protocol
+in Python's whole numbers, sentence by sentence. It shares nothing with the crates, and stands in for nothing of theirs: recorded
 answers and the label's expected text are held against it.
 
     python3 tools/paper.py < requests     an answer line for each request line
@@ -397,13 +397,64 @@ class Paper:
         if block.skipped:
             return 0, self.skipped_price(block), self.cleared(block)
         levels = self.cheapest(block) if least else self.chosen(block)
-        out = [0] * len(levels)
-        for p, a in zip(block.places, levels):
-            out[p] = -a if block.coefficients[p] < 0 else a
-        return self.count(block, levels), self.price(block, levels), out
+        return self.count(block, levels), self.price(block, levels), self.laid(block, levels)
 
     def cleared(self, block):
         return [0] * len(block.coefficients)
+
+    def laid(self, block, levels):
+        """Magnitudes in scan order, by rows and with the coefficients' signs."""
+        out = [0] * len(levels)
+        for p, a in zip(block.places, levels):
+            out[p] = -a if block.coefficients[p] < 0 else a
+        return out
+
+    # ---- the guarded block
+    DEAR = 1 << 62
+
+    def decoded(self, levels, log2, qp):
+        return self.residuals(self.coefficients_back(levels, log2, qp), log2, log2)
+
+    def darker(self, residuals, decoded):
+        return max(0, max(r - d for r, d in zip(residuals, decoded)))
+
+    def lighter(self, residuals, decoded):
+        return max(0, max(d - r for r, d in zip(residuals, decoded)))
+
+    def extremes(self, residuals, levels, log2, qp):
+        decoded = self.decoded(levels, log2, qp)
+        return self.darker(residuals, decoded), self.lighter(residuals, decoded)
+
+    def written_by_mode(self, block, least):
+        """The magnitudes, in scan order: the skip's zeros too."""
+        return [0] * len(block.places) if block.skipped else self.cheapest(block) if least else self.chosen(block)
+
+    def put_back(self, block, levels, p):
+        """With the first p scan places put back to m."""
+        return block.rounded[:p] + levels[p:]
+
+    def counts_put_back(self, n):
+        return [1 << i for i in range(n.bit_length())]
+
+    def candidates(self, block, levels):
+        return [levels] + [self.put_back(block, levels, p) for p in self.counts_put_back(len(levels))]
+
+    def within(self, extremes, heights):
+        return extremes[0] <= heights[0] and extremes[1] <= heights[1]
+
+    def guarded(self, block, residuals, log2, heights, least):
+        """Count, price, both extremes and levels of the first candidate that fits, or nothing."""
+        for levels in self.candidates(block, self.written_by_mode(block, least)):
+            price = self.price(block, levels)
+            if price >= self.DEAR:
+                continue
+            extremes = self.extremes(residuals, self.laid(block, levels), log2, block.qp)
+            if self.within(extremes, heights):
+                return self.count(block, levels), price, *extremes, self.laid(block, levels)
+
+    def guarded_tests(self, component, late, fits):
+        """15 behind 9 of the same component."""
+        return late + [(15, component, lambda: fits() is None)]
 
     # ---- refusals: a test is a number, a component and a question; the first that says yes is given
     def ordered(self, tests):
@@ -512,32 +563,71 @@ class Paper:
         n = self.places(luma, luma)
         return n + n // 2
 
-    def sub_block(self, buffer, luma, run, qp, d, intra_slice, intra_coded, costs, least=False):
-        """Count and price of each component, and the buffer; least: in the second mode."""
-        at, side = self.stretches(luma), lambda k: luma if k == Y else luma - 1
-        held = lambda k: buffer[at[k][0]:at[k][1]]
+    def side_of(self, luma, component):
+        return luma if component == Y else luma - 1
 
-        @functools.cache
-        def block(k):
-            return Block(self, self.coefficients(held(k), side(k), side(k)), side(k), k, qp[k], d[k], intra_slice,
-                         intra_coded, costs)
-
-        run_ones = [k for k in (Y, U, V) if self.runs(run, k)]
+    def three_tests(self, buffer, luma, run, qp, d, costs, late):
+        """The tests of a call over three components; `late` has those of a component's coefficients."""
+        at = self.stretches(luma)
         tests = [(1, 0, lambda: self.side_fault(luma, self.LEAST_LUMA))]
         tests += [(2, k, lambda k=k: self.qp_fault(qp[k])) for k in self.settings_read(run)]
         tests += [(3, k, lambda k=k: self.lambda_fault(d[k])) for k in self.settings_read(run)]
         tests += [(4, 0, lambda: self.cost_fault(costs, run)), (5, 0, lambda: len(buffer) < self.needed(luma, run))]
         tests += [(6, k, lambda k=k: self.residual_fault(self.sampled(buffer, at[k][1])[at[k][0]:]))
                   for k in self.samples_read(run)]
-        for k in run_ones:
-            tests += self.late_tests(k, lambda k=k: block(k))
-        self.first_fault(tests)
+        for k in (Y, U, V):
+            if self.runs(run, k):
+                tests += late(k)
+        return tests
+
+    def blocks_of_three(self, buffer, luma, qp, d, intra_slice, intra_coded, costs):
+        """A component's residuals, and its block."""
+        at, side = self.stretches(luma), lambda k: self.side_of(luma, k)
+        held = lambda k: buffer[at[k][0]:at[k][1]]
+        block = functools.cache(lambda k: Block(self, self.coefficients(held(k), side(k), side(k)), side(k), k, qp[k],
+                                                d[k], intra_slice, intra_coded, costs))
+        return held, block
+
+    def sub_block(self, buffer, luma, run, qp, d, intra_slice, intra_coded, costs, least=False):
+        """Count and price of each component, and the buffer; least: in the second mode."""
+        held, block = self.blocks_of_three(buffer, luma, qp, d, intra_slice, intra_coded, costs)
+        late = lambda k: self.late_tests(k, lambda: block(k))
+        self.first_fault(self.three_tests(buffer, luma, run, qp, d, costs, late))
         answers, after = [], list(buffer)
         for k in (Y, U, V):
-            count, price, after[slice(*at[k])] = self.finished(block(k), least) if k in run_ones else self.not_run(
-                held(k))
+            count, price, after[slice(*self.stretches(luma)[k])] = self.finished(
+                block(k), least) if self.runs(run, k) else self.not_run(held(k))
             answers.append((count, price))
         return answers, after
+
+    def heights_of(self, heights, component):
+        """Of the six: how much darker Y, U, V may get, then how much lighter."""
+        return heights[component], heights[3 + component]
+
+    def guarded_sub_block(self, buffer, luma, run, qp, d, intra_slice, intra_coded, costs, heights, least=False):
+        """Count, price and extremes of each component, and the buffer; least: in the second mode."""
+        held, block = self.blocks_of_three(buffer, luma, qp, d, intra_slice, intra_coded, costs)
+        fits = functools.cache(lambda k: self.guarded(block(k), held(k), self.side_of(luma, k),
+                                                      self.heights_of(heights, k), least))
+        late = lambda k: self.guarded_tests(k, self.late_tests(k, lambda: block(k)), lambda: fits(k))
+        self.first_fault(self.three_tests(buffer, luma, run, qp, d, costs, late))
+        answers, after = [], list(buffer)
+        for k in (Y, U, V):
+            *answer, after[slice(*self.stretches(luma)[k])] = fits(k) if self.runs(run, k) else self.not_guarded(held(k))
+            answers.append(answer)
+        return answers, after
+
+    def not_guarded(self, residuals):
+        return 0, 0, 0, 0, residuals
+
+    def measure(self, residuals, levels, log2, qp):
+        n = self.places(log2, log2)
+        self.first_fault([
+            (1, 0, lambda: self.side_fault(log2, self.LEAST_SIDE)),
+            (2, 0, lambda: self.qp_fault(qp)),
+            (5, 0, lambda: len(residuals) < n or len(levels) < n),
+        ])
+        return self.extremes(residuals[:n], levels[:n], log2, qp)
 
     def not_run(self, residuals):
         return 0, 0, residuals
@@ -589,6 +679,20 @@ class Paper:
             answers, after = self.sub_block(words.samples(), log2, run, qp, d, self.intra_slice(flags),
                                             self.intra_coded(flags), costs, self.second_mode(flags, verb))
             return b"accepted %s :" % b" ".join(b"%d %d" % a for a in answers), after
+        if verb == b"guarded":
+            log2, run = words.log2(), words.u32()
+            qp, d = zip(*[(words.u32(), words.f64()) for k in (Y, U, V)])
+            flags, heights, costs = words.flags(), [words.u32() for _ in range(6)], words.costs()
+            answers, after = self.guarded_sub_block(words.samples(), log2, run, qp, d, self.intra_slice(flags),
+                                                    self.intra_coded(flags), costs, heights,
+                                                    self.second_mode(flags, verb))
+            numbers = [n for a in answers for n in a[:2]] + [a[2] for a in answers] + [a[3] for a in answers]
+            return b"accepted %s :" % b" ".join(b"%d" % n for n in numbers), after
+        if verb == b"measure":
+            log2, qp, _, n = words.log2(), words.u32(), words.flags(), words.log2()
+            samples = words.samples()
+            darker, lighter = self.measure(samples[:n], samples[n:], log2, qp)
+            return b"accepted %d %d :" % (darker, lighter), samples
         if verb == b"scaleback":
             log2, qp = words.log2(), words.u32()
             return b"accepted :", self.scale_back(words.samples(), log2, qp)

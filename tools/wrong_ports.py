@@ -2,15 +2,15 @@
 
 A wrong port is tools/paper.py with one rule changed. Each answers the stored requests of `tq`; printed are how many
 answers it gets wrong (counted to 10, with --all to the end) of those made by hand and of those drawn by chance, and the
-request that catches it first. A port that is wrong in the second mode alone, or in the viewer's half alone, is asked
-requests of that mode or half alone. With WORDS, only ports whose names have one of them. Status 1 if a wrong port is
+request that catches it first. A port that is wrong in the second mode alone, in the viewer's half alone, or in the
+guarded call and measure alone, is asked requests of these alone. With WORDS, only ports whose names have one of them. Status 1 if a wrong port is
 caught by neither, or if the paper itself, or a port that can't differ, gets an answer wrong.
 """
 import copy, fractions, functools, itertools, math, multiprocessing, os, struct, sys
 from paper import Block, Costs, Malformed, Paper, Refused, U, V, Words, Y, products_back
 import vectors
 from vectors import by_hand
-from vectors.lines import CODED, FLAGS_AT, LEAST, SLICE, is_least, is_viewers
+from vectors.lines import CODED, FLAGS_AT, LEAST, SLICE, is_guarded, is_least, is_viewers
 
 HERE = os.path.dirname(os.path.dirname(os.path.abspath(__file__)))
 PORTS, EQUAL = [], []
@@ -1096,6 +1096,142 @@ for verb, word in ((b"scaleback", b"scale_back"), (b"scaleback", b"scale-back"),
                    (b"inverse", b"inv"), (b"inverse", b"inverse_transform"), (b"inverse", b"inverses")):
     port("%s read as %s" % (word.decode(), verb.decode()), answered=read_as(word, verb))
 reader("QP of 64 bits read", u32=lambda s: s.whole(0, 2 ** 64 - 1) if s.words[0] == b"scaleback" else Words.u32(s))
+
+# ---- the guarded call and measure
+def guards(name, **rules):
+    PORTS.append(type("guarded: " + name, (Paper,), {**rules, "asked": staticmethod(is_guarded)}))
+
+
+def ten_bits(value):
+    return max(-1023, min(1023, value))
+
+
+def some_put_back(chosen):
+    """Put back are the places of a block that `chosen` names, of its places in scan order and their number p."""
+    return lambda paper, block, levels, p: [
+        m if chosen(block, i, p) else a for i, (a, m) in enumerate(zip(levels, block.rounded))]
+
+
+def price_of_the_first(paper, block, residuals, log2, heights, least):
+    written = Paper.guarded(paper, block, residuals, log2, heights, least)
+    return written and (written[0], paper.price(block, paper.written_by_mode(block, least)), *written[2:])
+
+
+def count_of_the_first(paper, block, residuals, log2, heights, least):
+    written = Paper.guarded(paper, block, residuals, log2, heights, least)
+    return written and (paper.count(block, paper.written_by_mode(block, least)), *written[1:])
+
+
+def nearest_instead(paper, block, residuals, log2, heights, least):
+    """The last candidate where none fits, and no refusal."""
+    written = Paper.guarded(paper, block, residuals, log2, heights, least)
+    return written or Paper.guarded(paper, block, residuals, log2, (1 << 40, 1 << 40), least)
+
+
+def cheapest_instead(paper, block, residuals, log2, heights, least):
+    """Of the candidates that fit the one of least price."""
+    found = []
+    for levels in paper.candidates(block, paper.written_by_mode(block, least)):
+        extremes = paper.extremes(residuals, paper.laid(block, levels), log2, block.qp)
+        if paper.within(extremes, heights) and paper.price(block, levels) < paper.DEAR:
+            found.append((paper.count(block, levels), paper.price(block, levels), *extremes, paper.laid(block, levels)))
+    return min(found, key=lambda w: w[1]) if found else None
+
+
+def of_pairs(chosen):
+    """Extremes over those pairs of samples alone that `chosen` takes, of their place and the number of samples."""
+    def of(rule):
+        return lambda paper, residuals, decoded: rule(
+            paper, *zip(*[(r, d) for i, (r, d) in enumerate(zip(residuals, decoded)) if chosen(i, len(residuals))]))
+    return {"darker": of(Paper.darker), "lighter": of(Paper.lighter)}
+
+
+def side_of(n):
+    return 1 << (n.bit_length() - 1) // 2
+
+
+def extremes_of(which):
+    """What is answered of each component is another's."""
+    def three(paper, *of):
+        answers, after = Paper.guarded_sub_block(paper, *of)
+        return [[*a[:2], answers[d][2], answers[l][3]] for a, (d, l) in zip(answers, which)], after
+    return three
+
+
+guards("the height of the wrong side", within=lambda s, e, h: e[0] <= h[1] and e[1] <= h[0])
+guards("darker and lighter exchanged", darker=Paper.lighter, lighter=Paper.darker)
+guards("the larger of both heights", within=lambda s, e, h: max(e) <= max(h))
+guards("the smaller of both heights", within=lambda s, e, h: max(e) <= min(h))
+guards("darker alone looked at", within=lambda s, e, h: e[0] <= h[0])
+guards("lighter alone looked at", within=lambda s, e, h: e[1] <= h[1])
+guards("the height itself too much", within=lambda s, e, h: e[0] < h[0] and e[1] < h[1])
+guards("one more than the height", within=lambda s, e, h: e[0] <= h[0] + 1 and e[1] <= h[1])
+guards("the sum of both", within=lambda s, e, h: sum(e) <= sum(h))
+guards("heights cut to 16 bits", within=lambda s, e, h: e[0] <= h[0] % 65536 and e[1] <= h[1] % 65536)
+guards("heights as signed numbers", within=lambda s, e, h: e[0] <= wrapped(h[0]) and e[1] <= wrapped(h[1]))
+guards("the last row not looked at", **of_pairs(lambda i, n: i < n - side_of(n)))
+guards("the last column not looked at", **of_pairs(lambda i, n: i % side_of(n) != side_of(n) - 1))
+guards("the first sample not looked at", **of_pairs(lambda i, n: i != 0))
+guards("the last sample not looked at", **of_pairs(lambda i, n: i != n - 1))
+guards("the decoded clipped to 10 bits before it is compared",
+       decoded=lambda s, *of: [ten_bits(v) for v in Paper.decoded(s, *of)])
+guards("the difference cut to 16 bits", darker=lambda s, r, d: max(0, max(wrapped(a - b, 16) for a, b in zip(r, d))))
+guards("the mean instead of the most", darker=lambda s, r, d: max(0, sum(a - b for a, b in zip(r, d)) // len(r)))
+guards("coefficients compared instead of samples", extremes=lambda s, r, levels, log2, qp: Paper.extremes(
+    s, r, levels, log2, qp) if not any(levels) else (0, 0))
+guards("decoded at another QP", decoded=lambda s, levels, log2, qp: Paper.decoded(s, levels, log2, max(qp - 1, 0)))
+guards("no candidate but the first", counts_put_back=lambda s, n: [])
+guards("no candidate but all", counts_put_back=lambda s, n: [n])
+guards("not all places put back", counts_put_back=lambda s, n: Paper.counts_put_back(s, n)[:-1])
+guards("from 2 places on", counts_put_back=lambda s, n: Paper.counts_put_back(s, n)[1:])
+guards("one place more each time", counts_put_back=lambda s, n: range(1, n + 1))
+guards("four times as many each time", counts_put_back=lambda s, n: [4 ** i for i in range(n.bit_length() // 2 + 1)])
+guards("candidates from the last back", candidates=lambda s, block, levels: Paper.candidates(s, block, levels)[:1]
+       + Paper.candidates(s, block, levels)[:0:-1])
+guards("put back in block order", put_back=some_put_back(lambda block, i, p: block.places[i] < p))
+guards("put back from the end of the scan", put_back=some_put_back(lambda block, i, p: i >= len(block.places) - p))
+guards("only the place itself put back", put_back=some_put_back(lambda block, i, p: p // 2 <= i < p))
+guards("put back where the level was dropped alone", put_back=lambda s, block, levels, p: [
+    m if i < p and a == 0 else a for i, (a, m) in enumerate(zip(levels, block.rounded))])
+guards("put back where the level was lowered alone", put_back=lambda s, block, levels, p: [
+    m if i < p and a else a for i, (a, m) in enumerate(zip(levels, block.rounded))])
+guards("put back to m - 1", put_back=lambda s, block, levels, p: [max(m - 1, 0) for m in block.rounded[:p]] + levels[p:])
+guards("a skipped block not put back", candidates=lambda s, block, levels: [levels] if block.skipped else
+       Paper.candidates(s, block, levels))
+guards("the price of the unrepaired block", guarded=price_of_the_first)
+guards("the count of the unrepaired block", guarded=count_of_the_first)
+guards("the cheapest candidate that fits", guarded=cheapest_instead)
+guards("plain rounding where none fits", guarded=nearest_instead)
+guards("prices of 2^62 taken", DEAR=1 << 70)
+guards("prices in 64 bits", price=lambda s, block, levels: Paper.price(s, block, levels) % 2 ** 64)
+guards("prices from 2^60 on refused", DEAR=1 << 60)
+guards("15 before 7", guarded_tests=lambda s, k, late, fits: Paper.guarded_tests(s, k, [], fits) + late)
+guards("15 of all behind 9 of all", ordered=lambda s, tests: sorted(tests, key=lambda t: t[0] == 15))
+guards("15 told with component 0", guarded_tests=lambda s, k, late, fits: late + [(15, 0, lambda: fits() is None)])
+guards("15 of a component that is not run", runs=lambda s, run, k: Paper.runs(s, run, k) or run == 1 << 2)
+guards("heights by component, each darker and lighter", heights_of=lambda s, h, k: (h[2 * k], h[2 * k + 1]))
+guards("luma's heights for all", heights_of=lambda s, h, k: (h[0], h[3]))
+guards("heights of U and V exchanged", heights_of=lambda s, h, k: Paper.heights_of(s, h, (0, 2, 1)[k]))
+guards("extremes of U and V exchanged", guarded_sub_block=extremes_of([(0, 0), (2, 2), (1, 1)]))
+guards("luma's extremes for all", guarded_sub_block=extremes_of([(0, 0), (0, 0), (0, 0)]))
+guards("darker of V told of U", guarded_sub_block=extremes_of([(0, 0), (2, 1), (2, 2)]))
+guards("a component not run measured against 0", not_guarded=lambda s, r: (0, 0, max(0, *r), max(0, *[-v for v in r]), r))
+guards("the second mode not taken", written_by_mode=lambda s, block, least: Paper.written_by_mode(s, block, False))
+guards("always the second mode", written_by_mode=lambda s, block, least: Paper.written_by_mode(s, block, True))
+guards("measure: lists exchanged", measure=lambda s, r, l, log2, qp: Paper.measure(s, l, r, log2, qp))
+guards("measure: residuals' length not tested", measure=lambda s, r, l, log2, qp: Paper.measure(
+    s, r + [0] * (1 << min(2 * log2, 12)), l, log2, qp))
+guards("measure: levels' length not tested", measure=lambda s, r, l, log2, qp: Paper.measure(
+    s, r, l + [0] * (1 << min(2 * log2, 12)), log2, qp))
+guards("measure: lengths before the side", ordered=lambda s, tests: sorted(tests, key=lambda t: t[0] != 5) if len(
+    tests) == 3 else tests)
+guards("measure: QP 63 refused", measure=of_another("measure", QP=62))
+guards("measure: QP 64 taken", measure=of_another("measure", QP=64))
+guards("measure: residuals outside 1023 refused", measure=lambda s, r, l, log2, qp: s.first_fault(
+    [(6, 0, lambda: s.residual_fault(r))]) or Paper.measure(s, r, l, log2, qp))
+for verb in (b"guarded", b"measure"):
+    guards("%s not read" % verb.decode(), answered=read_as(verb, b"malformed"))
+
 
 # ---- ports that can't differ: what is said of them is checked as far as the stored requests go
 equal("7, 8 and 9 asked of a skipped block too", "there m is at most 1, lambda × 2 at most 2^29, D below 2^57",

@@ -631,7 +631,7 @@ GOOD_VIEWER = {
     b"inverse": inverse([80, -16, -32, 0]),
 }
 # the same of the second mode
-GOOD_LEAST = {verb: least(GOOD[verb]) for verb in FLAGS_AT}
+GOOD_LEAST = {verb: least(line) for verb, line in GOOD.items() if verb in FLAGS_AT}
 # what the words of a request are, after its verb
 FIELDS = {
     b"transform": ["log2"] * 2 + ["n"] + ["sample"] * 4,
@@ -639,6 +639,8 @@ FIELDS = {
     b"subblock": ["log2", "u32"] + ["u32", "lambda"] * 3 + ["flags"] + ["cost"] * 28 + ["n"] + ["sample"] * 24,
     b"scaleback": ["log2", "u32", "n"] + ["sample"] * 4,
     b"inverse": ["log2"] * 2 + ["n"] + ["sample"] * 4,
+    b"guarded": ["log2", "u32"] + ["u32", "lambda"] * 3 + ["flags"] + ["u32"] * 6 + ["cost"] * 28 + ["n"] + ["sample"] * 24,
+    b"measure": ["log2", "u32", "flags", "log2", "n"] + ["sample"] * 8,
 }
 # past each type, first one whose low bits would pass
 PAST_TYPE = {
@@ -835,7 +837,7 @@ def flags_not_read():
     past = [2 ** 32 + low for low in range(8)] + [2 ** 33, 2 ** 63, 2 ** 64 - 1, 2 ** 64, 2 ** 64 + 3, 10 ** 30]
     texts = [b"01", b"03", b"07", b"00", b"0000000003", b"000000000000000000000007", b"+3", b"-0", b"", b"0x3", b"0b11",
              b"3.", b"3.0", b"3u", b"3,", b"1,1", b"1|2", b"1+2", b"011", b"true", b"yes", b"I", b"least"]
-    for verb, at in FLAGS_AT.items():
+    for verb, at in ((verb, FLAGS_AT[verb]) for verb in GOOD_LEAST):
         line = GOOD[verb]
         yield from (replaced(line, at, b"%d" % n) for n in past + [-1, -3, -7, -2 ** 31, -2 ** 32])
         yield from (replaced(line, at, text) for text in texts)
@@ -861,7 +863,7 @@ def two_flags():
 
 def verbs_with_least():
     """The second mode has no verbs of its own: those that it once had are not read, with FLAGS or with two words."""
-    for verb, at in FLAGS_AT.items():
+    for verb, at in ((verb, FLAGS_AT[verb]) for verb in GOOD_LEAST):
         yield verb + b"-least"
         for flags in (b"0", b"3", b"4", b"7", b"0 0", b"0 1", b"1 0", b"1 1"):
             yield replaced(replaced(GOOD[verb], at, flags), 0, verb + b"-least")

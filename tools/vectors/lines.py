@@ -6,7 +6,7 @@ import math, struct
 SLICE, CODED, LEAST = 1, 2, 4
 USUAL_FLAGS = SLICE | CODED
 # which word it is
-FLAGS_AT = {b"quantise": 5, b"subblock": 9}
+FLAGS_AT = {b"quantise": 5, b"subblock": 9, b"guarded": 9}
 FLAT = [32768] * 28
 USUAL = 1 / 1024
 BELOW_HALF = math.nextafter(0.5, 0) / 32768
@@ -35,6 +35,18 @@ def subblock(residuals, log2=2, run=7, qp=(4, 4, 4), d=(USUAL,) * 3, flags=USUAL
     return f"subblock {log2} {run} {settings} {flags} {' '.join(map(str, costs))} {numbers(residuals, n)}".encode()
 
 
+def guarded(residuals, log2=2, run=7, qp=(4, 4, 4), d=(USUAL,) * 3, flags=USUAL_FLAGS, heights=(33791,) * 6, costs=FLAT,
+            n=None):
+    settings = " ".join(f"{a} {bits(b)}" for a, b in zip(qp, d))
+    before = f"{log2} {run} {settings} {flags} {' '.join(map(str, heights))}"
+    return f"guarded {before} {' '.join(map(str, costs))} {numbers(residuals, n)}".encode()
+
+
+def measure(residuals, levels, log2=1, qp=4, flags=0, n=None, lent=None):
+    samples = [*residuals, *levels]
+    return f"measure {log2} {qp} {flags} {len(residuals) if lent is None else lent} {numbers(samples, n)}".encode()
+
+
 def scaleback(levels, log2=1, qp=4, n=None):
     return f"scaleback {log2} {qp} {numbers(levels, n)}".encode()
 
@@ -46,6 +58,17 @@ def inverse(coefficients, lw=1, lh=1, n=None):
 def is_viewers(line):
     """A request of the viewer's half."""
     return line.split(b" ")[0] in (b"scaleback", b"inverse")
+
+
+def is_guarded(line):
+    """A request of the guarded call or of measure."""
+    return line.split(b" ")[0] in (b"guarded", b"measure")
+
+
+def unguarded(line):
+    """The same request without its heights."""
+    words = line.split(b" ")
+    return b" ".join([b"subblock"] + words[1:10] + words[16:])
 
 
 def replaced(line, at, word):

@@ -1,5 +1,5 @@
 -- A reply made by what a call left is the answer line that shows it: by the result of the call, its answer and its
--- buffer, of any call; then for those that answer a verdict alone, and for each of the two others.
+-- buffer, of any call; then for those that answer a verdict alone, and for each of the others.
 -- Assumes nothing.
 use mathlib.Core.Path.{_≡_, refl}
 use mathlib.Core.Bool.{Bool, true, false, cond}
@@ -15,28 +15,30 @@ use Rattle.refusals.specs.Faults.{Outcome}
 use Rattle.coding.specs.Block.{Quant}
 use Rattle.coding.specs.Call.{quantAnswer, quantBuffer}
 use Rattle.components.specs.Call.{SubBlock, subBlockAnswer, subBlockBuffer}
-use Rattle.surface.specs.Surface.{resultOf, VerdictLeft, QuantLeft, ThreeLeft}
-use Rattle.calls.specs.Calls.{shown, verdictText, quantText, threeText}
-use Rattle.calls.specs.Inner.Replied.{replyBy, Replied}
+use Rattle.heights.specs.Call.{Measure, measureAnswer}
+use Rattle.guarding.specs.Call.{GuardedBlock, guardedAnswer, guardedBuffer}
+use Rattle.surface.specs.Surface.{resultOf, VerdictLeft, QuantLeft, ThreeLeft, GuardedLeft, MeasureLeft}
+use Rattle.calls.specs.Calls.{shown, verdictText, quantText, threeText, guardedNumbers, guardedText, measureText}
+use Rattle.calls.specs.Inner.Replied.{zeros, replyBy, Replied}
 
 module _ (result component count : ℕ) (numbers : List ℕ) (before after : List ℤ) where
   -- by the test of the result
   accepted-or-refused : (b : Bool)
       → let yes : Reply = record { accepted = true; count = count; numbers = numbers } in
-      let no : Reply = record { accepted = false; count = 2; numbers = result ∷ component ∷ 0 ∷ 0 ∷ 0 ∷ 0 ∷ [] } in
-      count ≤ 6 → length after ≡ length before
+      let no : Reply = record { accepted = false; count = 2; numbers = result ∷ component ∷ zeros 10 } in
+      count ≤ 12 → length after ≡ length before
       → Replied
       (cond b (replyText true (take count numbers) after) (replyText false (result ∷ component ∷ []) after)) before
       (cond b yes no) after
   accepted-or-refused true h e = record { is = refl; few = h; kept = e }
   accepted-or-refused false h e = record { is = refl; few = omega arith; kept = e }
 
-  replied-by : count ≤ 6 → length after ≡ length before
+  replied-by : count ≤ 12 → length after ≡ length before
       → Replied (shown result component (take count numbers) after) before
       (replyBy result component count numbers) after
   replied-by = accepted-or-refused (eqb result 0)
 
-  pub replied : (q : Reply) (text : List ℕ) → q ≡ replyBy result component count numbers → count ≤ 6
+  pub replied : (q : Reply) (text : List ℕ) → q ≡ replyBy result component count numbers → count ≤ 12
       → length after ≡ length before → shown result component (take count numbers) after ≡ text
       → Replied text before q after
   replied q text e h k s = rw (e, ← s) (replied-by h k)
@@ -54,3 +56,11 @@ pub three-shown : (s : SubBlock) (r : ℕ) (w : List ℕ) (buffer : List ℤ) �
     → shown r (getD w 0 0) (getD w 1 0 ∷ getD w 4 0 ∷ getD w 2 0 ∷ getD w 5 0 ∷ getD w 3 0 ∷ getD w 6 0 ∷ []) buffer
     ≡ threeText s
 three-shown s r w buffer h = rw (h .result, h .written, h .left)
+
+pub guarded-shown : (g : GuardedBlock) (r : ℕ) (w : List ℕ) (buffer : List ℤ) → GuardedLeft g r w buffer
+    → shown r (getD w 0 0) (guardedNumbers w) buffer ≡ guardedText g
+guarded-shown g r w buffer h = rw (h .result, h .written, h .left)
+
+pub measure-shown : (m : Measure) (r : ℕ) (w : List ℕ) (samples : List ℤ) → MeasureLeft m r w
+    → shown r 0 (getD w 0 0 ∷ getD w 1 0 ∷ []) samples ≡ measureText m samples
+measure-shown m r w samples h = rw (h .result, h .written)

@@ -17,7 +17,10 @@ use Rattle.decoding.specs.Call.{Inverse, coefficientsLent, inverseVerdict, inve
 use Rattle.coding.specs.Block.{Quant}
 use Rattle.coding.specs.Call.{quantAnswer, quantBuffer}
 use Rattle.components.specs.Call.{SubBlock, subBlockAnswer, subBlockBuffer}
+use Rattle.heights.specs.Call.{Measure, lent, measureAnswer}
+use Rattle.guarding.specs.Call.{GuardedBlock, guardedAnswer, guardedBuffer}
 use Rattle.surface.specs.Surface.{resultOf, quantAsked, quantWritten, threeAsked, threeWritten}
+use Rattle.surface.specs.Surface.{guardedAsked, guardedWritten, measureWritten}
 use Rattle.verbs.specs.declared.Verb.{Verb}
 use Rattle.verbs.specs.declared.Verb.the-variants as verbs
 use Rattle.replies.specs.Reply.{replyText}
@@ -63,6 +66,18 @@ scaleBy f samples = levelsLent samples (getD f 0 0) (getD f 1 0)
 abbrev pub inverseBy : List ℕ → List ℤ → Inverse
 inverseBy f samples = coefficientsLent samples (getD f 0 0) (getD f 1 0)
 
+-- LOG2 RUN, a QP and a LAMBDA each of Y, U and V, FLAGS, six heights, COSTS
+abbrev pub allowedBy : List ℕ → List ℕ
+allowedBy f = getD f 9 0 ∷ getD f 10 0 ∷ getD f 11 0 ∷ getD f 12 0 ∷ getD f 13 0 ∷ getD f 14 0 ∷ []
+
+abbrev pub guardedBy : List ℕ → List ℤ → GuardedBlock
+guardedBy f samples =
+    guardedAsked samples (getD f 0 0) (qpsBy f) (lambdasBy f) (getD f 1 0) (getD f 8 0) (costsFrom 15 f) (allowedBy f)
+
+-- LOG2 QP FLAGS RESIDUALS: so many of the samples are residuals, and those behind are levels
+abbrev pub measureBy : List ℕ → List ℤ → Measure
+measureBy f samples = lent (take (getD f 3 0) samples) (drop (getD f 3 0) samples) (getD f 0 0) (getD f 1 0)
+
 -- ---- the answer line
 -- where the result is 0, `accepted` and numbers of the answer; else `refused`, the result and the component
 abbrev pub shown : (result component : ℕ) → (numbers : List ℕ) → List ℤ → List ℕ
@@ -95,6 +110,23 @@ threeText s =
     shown (resultOf (subBlockAnswer s)) (getD w 0 0)
     (getD w 1 0 ∷ getD w 4 0 ∷ getD w 2 0 ∷ getD w 5 0 ∷ getD w 3 0 ∷ getD w 6 0 ∷ []) (subBlockBuffer s)
 
+-- the count and the price of Y, of U, of V, how much darker each gets, how much lighter
+abbrev pub guardedNumbers : List ℕ → List ℕ
+guardedNumbers w =
+    getD w 1 0 ∷ getD w 4 0 ∷ getD w 2 0 ∷ getD w 5 0 ∷ getD w 3 0 ∷ getD w 6 0
+    ∷ getD w 7 0 ∷ getD w 8 0 ∷ getD w 9 0 ∷ getD w 10 0 ∷ getD w 11 0 ∷ getD w 12 0 ∷ []
+
+abbrev pub guardedText : GuardedBlock → List ℕ
+guardedText g =
+    let w = guardedWritten (guardedAnswer g) in
+    shown (resultOf (guardedAnswer g)) (getD w 0 0) (guardedNumbers w) (guardedBuffer g)
+
+-- how much darker and how much lighter, and the samples as they were
+abbrev pub measureText : Measure → List ℤ → List ℕ
+measureText m samples =
+    let w = measureWritten (measureAnswer m) in
+    shown (resultOf (measureAnswer m)) 0 (getD w 0 0 ∷ getD w 1 0 ∷ []) samples
+
 -- what a verb with its fields and samples is answered by
 unfoldable pub answered : Verb → List ℕ → List ℤ → List ℕ
 unfolding replyText
@@ -103,3 +135,5 @@ answered verbs.Quantise f samples = quantText (quantBy f samples)
 answered verbs.SubBlock f samples = threeText (threeBy f samples)
 answered verbs.ScaleBack f samples = scaleText (scaleBy f samples)
 answered verbs.Inverse f samples = inverseText (inverseBy f samples)
+answered verbs.Guarded f samples = guardedText (guardedBy f samples)
+answered verbs.Measure f samples = measureText (measureBy f samples) samples

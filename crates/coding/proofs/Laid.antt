@@ -1,20 +1,22 @@
 -- What a buffer holds once values were laid at block places: at each place met its value, and elsewhere what it held.
 -- The places of a scan are met once each, and lie inside the block, so that the surplus is not touched. And the signs
--- put to a list of magnitudes, which are then laid.
+-- put to a list of magnitudes, which are then laid, and read back.
 -- Assumes nothing.
 use mathlib.Core.Path.{_≡_, refl, sym, ap, _∙_}
 use mathlib.Core.Logic.{_≢_}
-use mathlib.Core.List.{List, [], _∷_}
+use mathlib.Core.List.{List, [], _∷_, map}
 use Prim.Native.Nat.{ℕ, zero, suc, _+_, _-_, _*_, _≤_, _<_}
 use native.Mathlib.Nat.{not-suc-le-zero, le-of-suc-le-suc}
 use native.Mathlib.Omega.{arith}
-use lib.ListN.{length, getD, set, length-set, drop, length-drop}
+use lib.ListN.{length, getD, set, length-set, length-map, drop, length-drop}
 use lib.Seq.{getD-set-same, getD-set-other, getD-drop, ext-getD}
-use lib.IntN.{ℤ, pos}
+use lib.IntN.{ℤ, pos, natAbs}
 use Rattle.integers.specs.Sum.{at}
+use Rattle.integers.proofs.Lists.{map-at}
 use Rattle.scan.specs.Scan.{scan, scanAt}
 use Rattle.scan.proofs.OneToOne.{scan-inside, scan-apart}
 use Rattle.price.specs.Level.{signed}
+use Rattle.price.proofs.Level.{signed-magnitude}
 use Rattle.coding.specs.Block.{signs, laid}
 
 -- ---- signs put to the magnitudes of a list
@@ -81,6 +83,22 @@ module _ (w h : ℕ) (hw : 1 ≤ w) (hh : 1 ≤ h) where
   unfolding scanAt
   laid-on-scan vs l p e b q =
       laid-at (scan w h) vs l p scan-meets-once e q (omega (arith, scan-inside w h hw hh p q))
+
+  -- the magnitudes of what is laid, in scan order, are those that were signed
+  pub laid-magnitudes : (cs : List ℤ) (ms : List ℕ) (l : List ℤ) → length ms ≡ length cs
+      → length cs ≡ length (scan w h)
+      → w * h ≤ length l
+      → map (λ p. natAbs (at (laid (scan w h) (signs cs ms) l) p)) (scan w h) ≡ ms
+  unfolding scanAt
+  laid-magnitudes cs ms l e full b =
+      let n = length-map (scan w h) (λ p. natAbs (at (laid (scan w h) (signs cs ms) l) p)) in
+      ext-getD 0 (map (λ p. natAbs (at (laid (scan w h) (signs cs ms) l) p)) (scan w h)) ms (n ∙ sym full ∙ sym e)
+      (λ p lt.
+      map-at 0 0 (λ p. natAbs (at (laid (scan w h) (signs cs ms) l) p)) (scan w h) p (omega (arith, n))
+      ∙ ap natAbs
+      (laid-on-scan (signs cs ms) l p (signs-length cs ms e ∙ full) b (omega (arith, n))
+      ∙ signs-at cs ms p e (omega (arith, n)))
+      ∙ signed-magnitude (at cs p) (getD ms p 0))
 
   pub surplus-kept : (vs l : List ℤ) → drop (w * h) (laid (scan w h) vs l) ≡ drop (w * h) l
   unfolding scanAt

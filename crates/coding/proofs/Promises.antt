@@ -13,7 +13,6 @@ use native.Mathlib.Omega.{arith}
 use borrow.Author.Tests.{leb-false, lt-leb, not-true}
 use lib.Dec.{leb, lit≤}
 use lib.ListN.{length, getD, drop, length-map}
-use lib.Seq.{ext-getD}
 use lib.Signed.{nonNeg}
 use lib.IntN.{ℤ, pos, natAbs}
 use Rattle.integers.specs.Sum.{at}
@@ -38,10 +37,10 @@ use Rattle.coding.specs.declared.Coded.{Coded}
 use Rattle.coding.specs.declared.Mode.{Mode}
 use Rattle.coding.specs.declared.Mode.the-variants.{Walk, Least}
 use Rattle.coding.specs.Block.{Quant, area, scaleHere, shiftHere, ruleOf, blockPlaces, scanned, places}
-use Rattle.coding.specs.Block.{isSkipped, writtenIn, magnitudes, signs, priceOf, quantised}
+use Rattle.coding.specs.Block.{isSkipped, writtenIn, magnitudes, signs, laid, priceOf, quantised}
 use Rattle.coding.specs.Call.{coded, quantVerdict, uncodedHere, quantAnswer, quantBuffer}
 use Rattle.coding.proofs.Modes.{length-written, zero-or-m-or-m-1}
-use Rattle.coding.proofs.Laid.{signs-length, signs-at, laid-on-scan, surplus-kept}
+use Rattle.coding.proofs.Laid.{signs-length, signs-at, laid-on-scan, laid-magnitudes, surplus-kept}
 use Rattle.coding.proofs.Accepted.{Accepted, no-fault}
 
 -- ---- a level
@@ -110,35 +109,60 @@ module _ (c : Quant) (ok : quantVerdict c ≡ passed) where
       map-at (pos 0) 0 (λ z. scaled (scaleHere c) z) (scanned c) p (omega (arith, scanned-count))
       ∙ ap (λ (z : ℤ). scaled (scaleHere c) z) (scanned-at p h)
 
+  -- ---- the block's levels, laid by any magnitudes
+  module _ (ms : List ℕ) (full : length ms ≡ area c) where
+    abbrev filled : List ℤ
+    filled = laid (blockPlaces c) (signs (scanned c) ms) (c .buffer)
+
+    -- the level at a scan place
+    pub laid-level : (p : ℕ) → p < area c
+        → at (laid (blockPlaces c) (signs (scanned c) ms) (c .buffer)) (placeOf c p)
+        ≡ signed (at (c .buffer) (placeOf c p)) (getD ms p 0)
+    unfolding blockPlaces area
+    laid-level p h =
+        let e = full ∙ sym scanned-count in
+        laid-on-scan (2 ^ c .lw) (2 ^ c .lh) (one-le-pow _ _ (lit≤ tt)) (one-le-pow _ _ (lit≤ tt))
+        (signs (scanned c) ms) (c .buffer) p
+        (signs-length (scanned c) ms e ∙ scanned-count ∙ sym places-count)
+        (facts .long)
+        (omega (arith, places-count))
+        ∙ signs-at (scanned c) ms p e (omega (arith, scanned-count))
+        ∙ ap (λ (z : ℤ). signed z (getD ms p 0)) (scanned-at p h)
+
+    -- it is 0 or has its coefficient's sign, with magnitude m or m - 1, where its magnitude is so
+    pub laid-level-allowed : (p : ℕ) → p < area c → Allowed (ruleOf c .top (getD (places c) p 0)) (getD ms p 0)
+        → (let v = at (laid (blockPlaces c) (signs (scanned c) ms) (c .buffer)) (placeOf c p) in
+        (v ≡ pos 0) ⊎ ((nonNeg v ≡ nonNeg (at (c .buffer) (placeOf c p)))
+        × ((natAbs v ≡ rounded c p) ⊎ (suc (natAbs v) ≡ rounded c p))))
+    unfolding ruleOf
+    laid-level-allowed p h m =
+        let allowed : Allowed (rounded c p) (getD ms p 0) =
+        subst (λ (L : ℕ). Allowed (nearest (shiftHere c) L) (getD ms p 0)) (L-at p h) m in
+        rw (laid-level p h) (level-of (at (c .buffer) (placeOf c p)) (rounded c p) (getD ms p 0) allowed)
+
+    -- what the buffer holds is what was meant
+    pub laid-read-back : magnitudesIn c (laid (blockPlaces c) (signs (scanned c) ms) (c .buffer)) ≡ ms
+    unfolding blockPlaces area
+    laid-read-back =
+        laid-magnitudes (2 ^ c .lw) (2 ^ c .lh) (one-le-pow _ _ (lit≤ tt)) (one-le-pow _ _ (lit≤ tt)) (scanned c) ms
+        (c .buffer) (full ∙ sym scanned-count) (scanned-count ∙ sym places-count) (facts .long)
+
   after : quantBuffer c ≡ quantised c
   unfolding quantBuffer
   after = rw ok
 
-  -- the level at a scan place
+  after-laid : quantBuffer c ≡ laid (blockPlaces c) (signs (scanned c) (magnitudes c)) (c .buffer)
+  unfolding quantised
+  after-laid = after
+
   level-is : (p : ℕ) → p < area c → at (quantBuffer c) (placeOf c p)
       ≡ signed (at (c .buffer) (placeOf c p)) (getD (magnitudes c) p 0)
-  unfolding quantised blockPlaces area
   level-is p h =
-      let e = magnitudes-count ∙ sym scanned-count in
-      ap (λ (l : List ℤ). at l (placeOf c p)) after
-      ∙ laid-on-scan (2 ^ c .lw) (2 ^ c .lh) (one-le-pow _ _ (lit≤ tt)) (one-le-pow _ _ (lit≤ tt))
-      (signs (scanned c) (magnitudes c)) (c .buffer) p
-      (signs-length (scanned c) (magnitudes c) e ∙ scanned-count ∙ sym places-count)
-      (facts .long)
-      (omega (arith, places-count))
-      ∙ signs-at (scanned c) (magnitudes c) p e (omega (arith, scanned-count))
-      ∙ ap (λ (z : ℤ). signed z (getD (magnitudes c) p 0)) (scanned-at p h)
+      ap (λ (l : List ℤ). at l (placeOf c p)) after-laid ∙ laid-level (magnitudes c) magnitudes-count p h
 
-  -- what the buffer holds is what was meant
   pub read-back : magnitudesIn c (quantBuffer c) ≡ magnitudes c
-  unfolding blockPlaces scanAt
   read-back =
-      let n = length-map (blockPlaces c) (λ p. natAbs (at (quantBuffer c) p)) ∙ places-count in
-      ext-getD 0 (magnitudesIn c (quantBuffer c)) (magnitudes c) (n ∙ sym magnitudes-count)
-      (λ p lt.
-      map-at 0 0 (λ p. natAbs (at (quantBuffer c) p)) (blockPlaces c) p (omega (arith, n, places-count))
-      ∙ ap natAbs (level-is p (omega (arith, n)))
-      ∙ signed-magnitude (at (c .buffer) (placeOf c p)) (getD (magnitudes c) p 0))
+      ap (λ (l : List ℤ). magnitudesIn c l) after-laid ∙ laid-read-back (magnitudes c) magnitudes-count
 
   answer-is : quantAnswer c ≡ coded (nonzeros (magnitudes c)) (priceOf c)
   unfolding quantAnswer
@@ -183,15 +207,11 @@ module _ (c : Quant) (ok : quantVerdict c ≡ passed) where
         → (let v = at (quantBuffer c) (placeOf c p) in
         (v ≡ pos 0) ⊎ ((nonNeg v ≡ nonNeg (at (c .buffer) (placeOf c p)))
         × ((natAbs v ≡ rounded c p) ⊎ (suc (natAbs v) ≡ rounded c p))))
-    unfolding ruleOf
     level-zero-or-signed-m-or-m-1 p h =
-        let a = getD (magnitudes c) p 0 in
-        let m : Allowed (rounded c p) a =
-        subst (λ (l : List ℕ). Allowed (rounded c p) (getD l p 0)) (sym written-magnitudes)
-        (subst (λ (L : ℕ). Allowed (nearest (shiftHere c) L) (getD (writtenIn (c .mode) (ruleOf c) (places c)) p 0))
-        (L-at p h)
-        (zero-or-m-or-m-1 (c .mode) (ruleOf c) (places c) p (omega (arith, L-count)))) in
-        rw (level-is p h) (level-of (at (c .buffer) (placeOf c p)) (rounded c p) a m)
+        rw after-laid
+        (laid-level-allowed (magnitudes c) magnitudes-count p h
+        (subst (λ (l : List ℕ). Allowed (ruleOf c .top (getD (places c) p 0)) (getD l p 0)) (sym written-magnitudes)
+        (zero-or-m-or-m-1 (c .mode) (ruleOf c) (places c) p (omega (arith, L-count)))))
 
     -- the block left in the buffer is the one that the mode writes
     block-is : (v : Mode) → c .mode ≡ v → magnitudesIn c (quantBuffer c) ≡ writtenIn v (ruleOf c) (places c)

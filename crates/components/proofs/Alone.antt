@@ -28,7 +28,7 @@ use Rattle.components.specs.Call.{subBlockBuffer}
 use Rattle.components.specs.Inner.Groups.{lateFaults, EarlyPassed}
 use Rattle.components.proofs.Log2.{log2-high, log2-inside}
 use Rattle.components.proofs.Blocks.{block-accepted, block-leaves, quantised-length}
-use Rattle.components.proofs.Late.{alone-late}
+use Rattle.components.proofs.Late.{lateOf, alone-late}
 use Rattle.components.proofs.Accepted.{sides-fine, qp-fine, lambda-fine, costs-fine, long-enough, residuals-tame}
 use Rattle.components.proofs.Accepted.{early-passed, late-passed}
 use Rattle.components.proofs.Answer.{alone, outcome, answer-alone, buffer-alone, answer-whole, buffer-whole}
@@ -87,36 +87,72 @@ behind-two : (a b r : List ℤ) (n m : ℕ) → length a ≡ n → length b ≡ 
 behind-two a b r n m ea eb = sym (drop-drop m n (a ++ (b ++ r))) ∙ ap (drop m) (drop-at a (b ++ r) n ea)
     ∙ drop-at b r m eb
 
+-- three lists as long as the stretches, and a rest: each stands where the component's stretch does
+module _ (s : SubBlock) (of : Component → List ℤ) (long : (k : Component) → length (of k) ≡ area k s)
+    (rest : List ℤ) where
+  abbrev joined : List ℤ
+  joined = of Y ++ (of U ++ (of «V» ++ rest))
+
+  abbrev tail : Component → List ℤ
+  tail Y = of U ++ (of «V» ++ rest)
+  tail U = of «V» ++ rest
+  tail «V» = rest
+
+  -- the buffer from a component's stretch on
+  from : (k : Component) → drop (start k s) joined ≡ of k ++ tail k
+  unfolding start
+  from Y = refl
+  from U = drop-at (of Y) (tail Y) (area Y s) (long Y)
+  from «V» = behind-two (of Y) (of U) (tail U) (area Y s) (area U s) (long Y) (long U)
+
+  pub joined-at : (k : Component) → take (area k s) (drop (start k s) joined) ≡ of k
+  joined-at k = ap (take (area k s)) (from k) ∙ take-at (of k) (tail k) (area k s) (long k)
+
+  pub joined-behind : behind s joined ≡ rest
+  joined-behind =
+      sym (drop-drop (area «V» s) (start «V» s) joined)
+      ∙ ap (drop (area «V» s)) (from «V»)
+      ∙ drop-at (of «V») (tail «V») (area «V» s) (long «V»)
+
+-- ---- a component that is run, past the early tests
+module _ (s : SubBlock) (early : EarlyPassed s) (k : Component) (run : runs k s ≡ true) where
+  wide : outside 1 mostLog2 (log2Of k (s .lw)) ≡ false
+  wide = let i = sides-fine s (early .settings) in log2-inside k (s .lw) (i .0 .0) (i .0 .1)
+
+  high : outside 1 mostLog2 (log2Of k (s .lh)) ≡ false
+  high = let i = sides-fine s (early .settings) in log2-inside k (s .lh) (i .1 .0) (i .1 .1)
+
+  fills : length (stretch k s) ≡ 2 ^ log2Of k (s .lw) * 2 ^ log2Of k (s .lh)
+  unfolding area
+  fills = stretch-long s early k
+
+  -- the quantiser alone says of its coefficients what the call says of them
+  pub quantiser-alone-is-late : quant.quantVerdict (quantOf k s) ≡ lateOf k s
+  unfolding quantOf quantOn transOf block.area
+  quantiser-alone-is-late =
+      let i = sides-fine s (early .settings) in
+      alone-late (quantOf k s) wide high (qp-fine s (early .settings) k run) (lambda-fine s (early .settings) k run)
+      (costs-fine s (early .buffer))
+      (omega (arith, coefficients-long (stretch k s) (log2Of k (s .lw)) (log2Of k (s .lh))))
+      (none-is-least (log2Of k (s .lw)) (log2Of k (s .lh)) (log2-high k (s .lw) (i .0 .1))
+      (log2-high k (s .lh) (i .1 .1)) (stretch k s) fills
+      (residuals-tame s (early .buffer) k run))
+      ∙ ap (λ (t : Bool). cond t (verdict lateFaults (quantOf k s)) passed) (sym run)
+
 -- ---- an accepted call
 module _ (s : SubBlock) (ok : subBlockVerdict s ≡ passed) where
   early : EarlyPassed s
   early = early-passed s ok
 
-  long : (k : Component) → length (levels k s) ≡ area k s
-  long = levels-long s early
-
-  abbrev tail : Component → List ℤ
-  tail Y = levels U s ++ (levels «V» s ++ behind s (s .buffer))
-  tail U = levels «V» s ++ behind s (s .buffer)
-  tail «V» = behind s (s .buffer)
-
-  -- the buffer from a component's stretch on
-  from : (k : Component) → drop (start k s) (subBlockBuffer s) ≡ levels k s ++ tail k
-  unfolding start
-  from Y = buffer-whole s ok
-  from U = ap (drop (area Y s)) (buffer-whole s ok) ∙ drop-at (levels Y s) (tail Y) (area Y s) (long Y)
-  from «V» =
-      ap (drop (area Y s + area U s)) (buffer-whole s ok)
-      ∙ behind-two (levels Y s) (levels U s) (tail U) (area Y s) (area U s) (long Y) (long U)
-
   pub left-is : (k : Component) → leftIn k s ≡ levels k s
-  left-is k = ap (take (area k s)) (from k) ∙ take-at (levels k s) (tail k) (area k s) (long k)
+  left-is k =
+      ap (λ (l : List ℤ). take (area k s) (drop (start k s) l)) (buffer-whole s ok)
+      ∙ joined-at s (λ k. levels k s) (levels-long s early) (behind s (s .buffer)) k
 
   accepted-surplus : behind s (subBlockBuffer s) ≡ behind s (s .buffer)
   accepted-surplus =
-      sym (drop-drop (area «V» s) (start «V» s) (subBlockBuffer s))
-      ∙ ap (drop (area «V» s)) (from «V»)
-      ∙ drop-at (levels «V» s) (tail «V») (area «V» s) (long «V»)
+      ap (behind s) (buffer-whole s ok)
+      ∙ joined-behind s (λ k. levels k s) (levels-long s early) (behind s (s .buffer))
 
   -- the answer is the counts and prices of the three
   pub answer-of-three : subBlockAnswer s ≡ coded (share Y s) (share U s) (share «V» s)
@@ -124,38 +160,21 @@ module _ (s : SubBlock) (ok : subBlockVerdict s ≡ passed) where
 
   -- ---- a component that is run
   module _ (k : Component) (run : runs k s ≡ true) where
-    wide : outside 1 mostLog2 (log2Of k (s .lw)) ≡ false
-    wide = let i = sides-fine s (early .settings) in log2-inside k (s .lw) (i .0 .0) (i .0 .1)
-
-    high : outside 1 mostLog2 (log2Of k (s .lh)) ≡ false
-    high = let i = sides-fine s (early .settings) in log2-inside k (s .lh) (i .1 .0) (i .1 .1)
-
-    fills : length (stretch k s) ≡ 2 ^ log2Of k (s .lw) * 2 ^ log2Of k (s .lh)
-    unfolding area
-    fills = stretch-long s early k
-
     pub transform-accepts : transVerdict (transOf k s) ≡ passed
     unfolding transOf places
-    transform-accepts = block-accepted (transOf k s) wide high fills (residuals-tame s (early .buffer) k run)
+    transform-accepts =
+        block-accepted (transOf k s) (wide s early k run) (high s early k run) (fills s early k run)
+        (residuals-tame s (early .buffer) k run)
 
     after-is : quantAfter k s ≡ quantOf k s
     unfolding transOf places quantOf
     after-is =
         ap (quantOn k s)
-        (block-leaves (transOf k s) wide high fills (residuals-tame s (early .buffer) k run))
+        (block-leaves (transOf k s) (wide s early k run) (high s early k run) (fills s early k run)
+        (residuals-tame s (early .buffer) k run))
 
     quantiser-accepts : quant.quantVerdict (quantOf k s) ≡ passed
-    unfolding quantOf quantOn transOf block.area
-    quantiser-accepts =
-        let i = sides-fine s (early .settings) in
-        alone-late (quantOf k s) wide high (qp-fine s (early .settings) k run) (lambda-fine s (early .settings) k run)
-        (costs-fine s (early .buffer))
-        (omega (arith, coefficients-long (stretch k s) (log2Of k (s .lw)) (log2Of k (s .lh))))
-        (none-is-least (log2Of k (s .lw)) (log2Of k (s .lh)) (log2-high k (s .lw) (i .0 .1))
-        (log2-high k (s .lh) (i .1 .1)) (stretch k s) fills
-        (residuals-tame s (early .buffer) k run))
-        ∙ ap (λ (t : Bool). cond t (verdict lateFaults (quantOf k s)) passed) (sym run)
-        ∙ late-passed s ok k
+    quantiser-accepts = quantiser-alone-is-late s early k run ∙ late-passed s ok k
 
     pub quantiser-answers : quant.quantAnswer (quantAfter k s) ≡ quant.coded (count k s) (price k s)
     unfolding count price

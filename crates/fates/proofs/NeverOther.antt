@@ -1,5 +1,5 @@
--- No fate is `Other` in a block that the quantiser accepts: a level is its rounded magnitude, one less, or 0. It is
--- what demand 3 says of the call, in the words of the fates.
+-- No fate is `Other` in a block that the quantiser accepts, nor in one that the guarded call does: a level is its
+-- rounded magnitude, one less, or 0. It is what demand 3 says of the calls, in the words of the fates.
 -- Assumes nothing.
 use mathlib.Core.Path.{_≡_, refl, ap}
 use mathlib.Core.Logic.{_⊎_, inl, inr, ⊎-elim}
@@ -14,6 +14,12 @@ use Rattle.refusals.specs.Faults.{passed}
 use Rattle.coding.specs.Block.{Quant, area, isSkipped}
 use Rattle.coding.specs.Call.{quantVerdict, quantBuffer}
 use Rattle.coding.proofs.Promises.{placeOf, rounded, level-zero-or-signed-m-or-m-1, skipped-is-cleared}
+use Rattle.refusals.specs.declared.Component.{Component}
+use Rattle.components.specs.Call.{runs, quantOf}
+use Rattle.components.specs.Call as three
+use Rattle.guarding.specs.Call.{GuardedBlock, guardedVerdict}
+use Rattle.guarding.proofs.Answer.{leftIn}
+use Rattle.guarding.proofs.Promises.{guarded-level-zero-or-signed-m-or-m-1}
 use Rattle.fates.specs.declared.Fate.{Fate}
 use Rattle.fates.specs.declared.Fate.the-variants.{Nothing, Kept, Lowered, Dropped, Other}
 use Rattle.fates.specs.Fate.{fateOf}
@@ -52,3 +58,14 @@ module _ (c : Quant) (ok : quantVerdict c ≡ passed) where
 
   pub never-other : (p : ℕ) → p < area c → isOther (fateOf (rounded c p) (left p)) ≡ false
   never-other p h = plain (rounded c p) (left p) (allowed p h (isSkipped c) refl)
+
+-- of a component that is run
+module _ (g : GuardedBlock) (ok : guardedVerdict g ≡ passed) (k : Component) (run : runs k (g .call) ≡ true) where
+  abbrev guarded-left : ℕ → ℕ
+  guarded-left p = natAbs (at (leftIn k g) (placeOf (quantOf k (g .call)) p))
+
+  pub guarded-never-other : (p : ℕ) → p < three.area k (g .call)
+      → isOther (fateOf (rounded (quantOf k (g .call)) p) (guarded-left p)) ≡ false
+  guarded-never-other p h =
+      plain (rounded (quantOf k (g .call)) p) (guarded-left p)
+      (⊎-elim (λ z. inl (ap natAbs z)) (λ s. inr (s .1)) (guarded-level-zero-or-signed-m-or-m-1 g ok k run p h))

@@ -1,7 +1,9 @@
 // The exports for C and Rust, nothing else: each takes whole numbers, f64s, slices and arrays, and answers 0 or a
 // refusal's number. What the numbers ask for, and what is left then, is said once, in `surface`.
 use refusals::Component;
+use wire::guarded_block;
 use wire::inverse;
+use wire::measure;
 use wire::quantise;
 use wire::scale_back;
 use wire::sub_block;
@@ -10,16 +12,17 @@ ghost use mathlib.Core.Path.{_≡_};
 ghost use Rattle.refusals.specs.declared.Component.the-variants.{Y, U, «V»};
 ghost use Rattle.transform.specs.Call.{called};
 ghost use Rattle.decoding.specs.Call.{levelsLent, coefficientsLent};
-ghost use Rattle.surface.specs.Surface.{TransLeft, ScaleLeft, InverseLeft};
-ghost use Rattle.surface.specs.Surface.{quantAsked, QuantLeft, threeAsked, ThreeLeft};
+ghost use Rattle.heights.specs.Call.{lent};
+ghost use Rattle.surface.specs.Surface.{TransLeft, ScaleLeft, InverseLeft, MeasureLeft};
+ghost use Rattle.surface.specs.Surface.{quantAsked, QuantLeft, threeAsked, ThreeLeft, guardedAsked, GuardedLeft};
 
 // Which surface this is: 10000 times the first number of the version, 100 times the second, and the third. The header
 // and the host crate have the same number.
 #[no_mangle]
 pub extern "C" fn galemosu_version() -> u32
-    ensures { λ r. ⌜ r ≡ 400 ⌝ }
+    ensures { λ r. ⌜ r ≡ 500 ⌝ }
 {
-    400
+    500
 }
 
 #[no_mangle]
@@ -134,4 +137,49 @@ pub extern "C" fn galemosu_inverse(block: &mut [i16], log2_w: usize, log2_h: usi
     ensures { λ r. ⌜ InverseLeft (coefficientsLent (now (block .entry)) «log2_w» «log2_h») r (now (block .exit)) ⌝ }
 {
     inverse(block, log2_w, log2_h)
+}
+
+#[no_mangle]
+pub extern "C" fn galemosu_guarded_sub_block(
+    buffer: &mut [i16],
+    log2_luma: usize,
+    qp: &[u32; 3],
+    lambda: &[f64; 3],
+    run: u32,
+    flags: u32,
+    costs: &[u64; 28],
+    heights: &[u32; 6],
+    answer: &mut [u64; 13],
+) -> u32
+    ensures { λ r. ⌜ GuardedLeft
+        (guardedAsked (now (buffer .entry)) «log2_luma» (now (qp .entry)) (now (lambda .entry)) run flags
+        (now (costs .entry)) (now (heights .entry))) r (now (answer .exit)) (now (buffer .exit)) ⌝ }
+{
+    guarded_block(
+        buffer,
+        log2_luma,
+        qp,
+        lambda,
+        run,
+        flags,
+        costs,
+        heights,
+        answer,
+    )
+}
+
+// No bit of the flags means anything.
+#[no_mangle]
+pub extern "C" fn galemosu_measure(
+    residuals: &[i16],
+    levels: &[i16],
+    log2_side: usize,
+    qp: u32,
+    flags: u32,
+    answer: &mut [u64; 2],
+) -> u32
+    ensures { λ r. ⌜ MeasureLeft (lent (now (residuals .entry)) (now (levels .entry)) «log2_side» qp)
+        r (now (answer .exit)) ⌝ }
+{
+    measure(residuals, levels, log2_side, qp, answer)
 }

@@ -62,8 +62,8 @@ fn behind(i: usize) -> u8 {
 // Eight rows of eight levels, each in six bytes with its mark behind it.
 pub fn put_levels(
     text: &mut [u8; 456],
-    coefficients: &[i16; 64],
-    levels: &[i16; 64],
+    coefficients: &[i16; 96],
+    levels: &[i16; 96],
     qp: u32,
 ) -> Tally
     requires { ⌜ qp ≤ 63 ⌝ }

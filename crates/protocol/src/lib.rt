@@ -26,7 +26,7 @@ fn answer_call(
     room: &mut [i16],
     line: &[u8],
     at: usize,
-    fields: &[u64; 40],
+    fields: &[u64; 48],
     out: &mut [u8; 65536],
 ) -> usize
     requires { ⌜ (length (now room) ≤ 8192) × Limited (kindsOf verb) (now fields) ⌝ }
@@ -48,7 +48,7 @@ fn answer_verb(verb: Verb, room: &mut [i16], line: &[u8], at: usize, out: &mut [
     ensures { λ r. ⌜ Written (answerOf (behindVerb verb (wordsFrom (now (line .entry)) at)))
         (now (out .entry)) (now (out .exit)) r ⌝ }
 {
-    let mut fields = [0u64; 40];
+    let mut fields = [0u64; 48];
     let Place::At(count) = read_head(verb, line, at, &mut fields) else {
         return put_malformed(out);
     };

@@ -1,8 +1,9 @@
--- The paper's number of each refusal and of each component.
+-- The paper's number of each refusal and of each component. 15 is the guarded block's; 10 to 14 are for change requests
+-- to come.
 use Prim.Native.Nat.{ℕ}
 use Rattle.refusals.specs.declared.Refusal.{Refusal}
 use Rattle.refusals.specs.declared.Refusal.the-variants.{Side, Qp, Lambda, Cost, Length, Sample, Level, Price}
-use Rattle.refusals.specs.declared.Refusal.the-variants.{Distortion}
+use Rattle.refusals.specs.declared.Refusal.the-variants.{Distortion, Height}
 use Rattle.refusals.specs.declared.Component.{Component}
 use Rattle.refusals.specs.declared.Component.the-variants.{Y, U, «V»}
 
@@ -16,6 +17,7 @@ numberOf Sample = 6
 numberOf Level = 7
 numberOf Price = 8
 numberOf Distortion = 9
+numberOf Height = 15
 
 abbrev pub componentOf : Component → ℕ
 componentOf Y = 0

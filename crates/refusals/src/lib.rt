@@ -17,6 +17,7 @@ pub enum Refusal {
     Level,
     Price,
     Distortion,
+    Height,
 }
 
 pub enum Component {
@@ -45,6 +46,7 @@ pub fn number(why: Refusal) -> u32
         Refusal::Level => 7,
         Refusal::Price => 8,
         Refusal::Distortion => 9,
+        Refusal::Height => 15,
     }
 }
 

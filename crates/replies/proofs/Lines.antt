@@ -28,8 +28,8 @@ written before text after most r h k e p =
     }
 
 module _ (accepted : Bool) (numbers : List ℕ) (samples : List ℤ) (before told counted parted after : List ℕ) where
-  -- each part's length is within its room: 8 bytes, 21 for each of up to 6 numbers, 2, 7 for each sample
-  pub replied : (a b c r : ℕ) → length numbers ≤ 6 → length samples ≤ 8192 → length before ≡ 65536
+  -- each part's length is within its room: 8 bytes, 21 for each of up to 12 numbers, 2, 7 for each sample
+  pub replied : (a b c r : ℕ) → length numbers ≤ 12 → length samples ≤ 8192 → length before ≡ 65536
       → length after ≡ length before
       → Put before 0 (verdictText accepted) 8 told a
       → Put told a (spaced printed numbers) (21 * length numbers) counted b
@@ -46,10 +46,10 @@ module _ (accepted : Bool) (numbers : List ℕ) (samples : List ℤ) (before tol
       let vnc : length (v ++ n ++ colon) ≡ length (v ++ n) + 2 = length-append (v ++ n) colon in
       let all : length (v ++ n ++ colon ++ l) ≡ length (v ++ n ++ colon) + length l =
       length-append (v ++ n ++ colon) l in
-      let numbered = put-both before v n told counted 0 8 a (21 * length numbers) b 134 (omega (arith, p .few))
+      let numbered = put-both before v n told counted 0 8 a (21 * length numbers) b 260 (omega (arith, p .few))
       (omega (arith, p .few, q .few)) p q in
-      let closed = put-both before (v ++ n) colon counted parted 0 134 b 2 c 136 (omega (arith, numbered .few))
+      let closed = put-both before (v ++ n) colon counted parted 0 260 b 2 c 262 (omega (arith, numbered .few))
       (omega (arith, numbered .few)) numbered s in
-      written before (v ++ n ++ colon ++ l) after 57480 r (omega arith) (omega arith) e
-      (put-both before (v ++ n ++ colon) l parted after 0 136 c (7 * length samples) r 57480
+      written before (v ++ n ++ colon ++ l) after 57606 r (omega arith) (omega arith) e
+      (put-both before (v ++ n ++ colon) l parted after 0 262 c (7 * length samples) r 57606
       (omega (arith, closed .few)) (omega (arith, closed .few, t .few)) closed t)

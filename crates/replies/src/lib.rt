@@ -13,7 +13,7 @@ ghost use Rattle.replies.specs.Reply.{spaced, verdictText, replyText, ma
 pub struct Reply {
     pub accepted: bool,
     pub count: usize,
-    pub numbers: [u64; 6],
+    pub numbers: [u64; 12],
 }
 
 pub fn put_malformed(out: &mut [u8]) -> usize
@@ -35,7 +35,7 @@ fn put_verdict(out: &mut [u8], accepted: bool) -> usize
 
 // A space and a number for each: at most 21 bytes.
 fn put_numbers(out: &mut [u8], at: usize, numbers: &[u64]) -> usize
-    requires { ⌜ (at ≤ 8) × (length (now numbers) ≤ 6) × (length (now out) ≡ 65536) ⌝ }
+    requires { ⌜ (at ≤ 8) × (length (now numbers) ≤ 12) × (length (now out) ≡ 65536) ⌝ }
     ensures { λ r. ⌜ Put (now (out .entry)) at (spaced printed (now (numbers .entry)))
         (21 * length (now (numbers .entry))) (now (out .exit)) r ⌝ }
 {
@@ -51,7 +51,7 @@ fn put_numbers(out: &mut [u8], at: usize, numbers: &[u64]) -> usize
 
 // A space and a sample for each: at most 7 bytes.
 fn put_samples(out: &mut [u8], at: usize, samples: &[i16]) -> usize
-    requires { ⌜ (at ≤ 136) × (length (now samples) ≤ 8192) × (length (now out) ≡ 65536) ⌝ }
+    requires { ⌜ (at ≤ 262) × (length (now samples) ≤ 8192) × (length (now out) ≡ 65536) ⌝ }
     ensures { λ r. ⌜ Put (now (out .entry)) at (spaced printedSample (now (samples .entry)))
         (7 * length (now (samples .entry))) (now (out .exit)) r ⌝ }
 {
@@ -67,7 +67,7 @@ fn put_samples(out: &mut [u8], at: usize, samples: &[i16]) -> usize
 
 // The whole answer: what a call answered, and the buffer as it left it.
 pub fn put_reply(out: &mut [u8], reply: Reply, samples: &[i16]) -> usize
-    requires { ⌜ (reply .count ≤ 6) × (length (now samples) ≤ 8192) × (length (now out) ≡ 65536) ⌝ }
+    requires { ⌜ (reply .count ≤ 12) × (length (now samples) ≤ 8192) × (length (now out) ≡ 65536) ⌝ }
     ensures { λ r. ⌜ Written (replyText (reply .accepted) (take (reply .count) (reply .numbers)) (now (samples .entry)))
         (now (out .entry)) (now (out .exit)) r ⌝ }
 {

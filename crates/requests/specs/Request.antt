@@ -11,7 +11,7 @@ use Rattle.numerals.specs.declared.number.Natural.the-variants as naturals
 use Rattle.numerals.specs.declared.number.Sample.{Sample}
 use Rattle.numerals.specs.declared.number.Sample.the-variants as samples
 use Rattle.verbs.specs.declared.Verb.{Verb}
-use Rattle.verbs.specs.declared.Verb.the-variants.{Transform, Quantise, SubBlock, ScaleBack, Inverse}
+use Rattle.verbs.specs.declared.Verb.the-variants.{Transform, Quantise, SubBlock, ScaleBack, Inverse, Guarded, Measure}
 use Rattle.verbs.specs.declared.Named.{Named}
 use Rattle.verbs.specs.declared.Named.the-variants as names
 use Rattle.numerals.specs.Number.{naturalUpTo, sampleOf, bitsOf}
@@ -57,12 +57,17 @@ costKinds = replicate 28 119
 --   subblock: LOG2 RUN QPY LAMBDAY QPU LAMBDAU QPV LAMBDAV FLAGS, COSTS
 --   scaleback: LOG2 QP
 --   inverse: LOG2W LOG2H
+--   guarded: those of subblock up to FLAGS, DARKERY DARKERU DARKERV LIGHTERY LIGHTERU LIGHTERV, COSTS
+--   measure: LOG2 QP FLAGS RESIDUALS
 abbrev pub kindsOf : Verb → List ℕ
 kindsOf Transform = 119 ∷ 119 ∷ []
 kindsOf Quantise = 99 ∷ 119 ∷ 105 ∷ 120 ∷ 105 ∷ costKinds
 kindsOf SubBlock = 119 ∷ 105 ∷ 105 ∷ 120 ∷ 105 ∷ 120 ∷ 105 ∷ 120 ∷ 105 ∷ costKinds
 kindsOf ScaleBack = 119 ∷ 105 ∷ []
 kindsOf Inverse = 119 ∷ 119 ∷ []
+kindsOf Guarded =
+    119 ∷ 105 ∷ 105 ∷ 120 ∷ 105 ∷ 120 ∷ 105 ∷ 120 ∷ 105 ∷ 105 ∷ 105 ∷ 105 ∷ 105 ∷ 105 ∷ 105 ∷ costKinds
+kindsOf Measure = 119 ∷ 105 ∷ 105 ∷ 119 ∷ []
 
 -- a number for each kind, from the words at the front, and the words behind them
 unfoldable pub fieldsOf : List ℕ → List (List ℕ) → Option (List ℕ × List (List ℕ))

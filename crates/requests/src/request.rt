@@ -70,7 +70,9 @@ fn read_fields(line: &[u8], at: usize, kinds: &[u8], fields: &mut [u64]) -> Plac
 //   subblock: LOG2 RUN QPY LAMBDAY QPU LAMBDAU QPV LAMBDAV FLAGS, COSTS
 //   scaleback: LOG2 QP
 //   inverse: LOG2W LOG2H
-pub fn read_head(verb: Verb, line: &[u8], at: usize, fields: &mut [u64; 40]) -> Place
+//   guarded: those of subblock up to FLAGS, DARKERY DARKERU DARKERV LIGHTERY LIGHTERU LIGHTERV, COSTS
+//   measure: LOG2 QP FLAGS RESIDUALS
+pub fn read_head(verb: Verb, line: &[u8], at: usize, fields: &mut [u64; 48]) -> Place
     ensures { λ r. ⌜ Fields (kindsOf verb) (now (line .entry)) at (now (fields .exit)) r ⌝ }
 {
     match verb {
@@ -79,6 +81,13 @@ pub fn read_head(verb: Verb, line: &[u8], at: usize, fields: &mut [u64; 40]) -> 
         Verb::SubBlock => read_fields(line, at, b"wiixixixiwwwwwwwwwwwwwwwwwwwwwwwwwwww", fields),
         Verb::ScaleBack => read_fields(line, at, b"wi", fields),
         Verb::Inverse => read_fields(line, at, b"ww", fields),
+        Verb::Guarded => read_fields(
+            line,
+            at,
+            b"wiixixixiiiiiiiwwwwwwwwwwwwwwwwwwwwwwwwwwww",
+            fields,
+        ),
+        Verb::Measure => read_fields(line, at, b"wiiw", fields),
     }
 }
 

@@ -129,15 +129,19 @@ module _ (lw lh : ℕ) (hw : lw ≤ mostLog2) (hh : lh ≤ mostLog2) (c x : List
       (sp : Values lh m hi p) (sq : Values lh m lo q) where
     pub high-within : (i : ℕ) → i < 2 ^ lw * 2 ^ lh → natAbs (at p i) ≤ 27795968
     high-within i h =
-        omega
-        (arith, values-within lw lh hw hh 14912 m hi p em sp (lhi ∙ lx)
-        (λ k hk. omega (arith, ap natAbs (ehi k (omega arith)), high-bound (at x k) (first-within k (omega arith)))) i h)
+        omega (
+          arith,
+          values-within lw lh hw hh 14912 m hi p em sp (lhi ∙ lx)
+              (λ k hk. omega (arith, ap natAbs (ehi k (omega arith)), high-bound (at x k) (first-within k (omega arith)))) i h,
+        )
 
     pub low-within : (i : ℕ) → i < 2 ^ lw * 2 ^ lh → natAbs (at q i) ≤ 7633080
     low-within i h =
-        omega
-        (arith, values-within lw lh hw hh 4095 m lo q em sq (llo ∙ lx)
-        (λ k hk. omega (arith, ap natAbs (elo k (omega arith)), low-bound (at x k))) i h)
+        omega (
+          arith,
+          values-within lw lh hw hh 4095 m lo q em sq (llo ∙ lx)
+              (λ k hk. omega (arith, ap natAbs (elo k (omega arith)), low-bound (at x k))) i h,
+        )
 
     -- the values of the two parts together are those of what was split
     parts-together : (u : ℕ) → u < 2 ^ lw → (y : ℕ)

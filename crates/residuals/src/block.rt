@@ -1,6 +1,6 @@
-// The whole block: the first stage over its rows, its sums split into two numbers of 16 bits each, the second stage over
-// the columns of either, and both joined by the one rounding and the clip. A block with a side of 4 has that side last,
-// in 64 bits, and nothing is split.
+// The whole block: the first stage over its rows, its sums split into two numbers of 16 bits each, the second stage
+// over the columns of either, and both joined by the one rounding and the clip. A block with a side of 4 has that side
+// last, in 64 bits, and nothing is split.
 use fours::last_columns;
 use fours::last_rows;
 use fours::turn;
@@ -19,7 +19,14 @@ ghost use Rattle.refusals.specs.Sides.{mostLog2};
 ghost use Rattle.decoding.specs.Inverse.{residuals};
 
 // x and y are rooms for sums, lower one for the lower parts; the higher ones stand in the block.
-fn both_stages(block: &mut [i16], x: &mut [i32], y: &mut [i32], lower: &mut [i16], lw: usize, lh: usize)
+fn both_stages(
+    block: &mut [i16],
+    x: &mut [i32],
+    y: &mut [i32],
+    lower: &mut [i16],
+    lw: usize,
+    lh: usize,
+)
     requires { ⌜ (1 ≤ lw) × (lw ≤ mostLog2) × (1 ≤ lh) × (lh ≤ mostLog2) ⌝ }
     requires { ⌜ (length (now block) ≡ 2 ^ lw * 2 ^ lh) × (length (now x) ≡ length (now block))
         × (length (now y) ≡ length (now block)) × (length (now lower) ≡ length (now block)) ⌝ }
@@ -91,7 +98,8 @@ fn restore_two(block: &mut [i16])
 
 // A block 4 high: the first stage over its rows, the last over its columns.
 fn four_high(block: &mut [i16], x: &mut [i32], lw: usize)
-    requires { ⌜ (1 ≤ lw) × (lw ≤ mostLog2) × (length (now block) ≡ 2 ^ lw * 4) × (length (now x) ≡ length (now block)) ⌝ }
+    requires { ⌜ (1 ≤ lw) × (lw ≤ mostLog2) × (length (now block) ≡ 2 ^ lw * 4)
+        × (length (now x) ≡ length (now block)) ⌝ }
     ensures { λ _. ⌜ now (block .exit) ≡ residuals (now (block .entry)) lw 2 ⌝ }
 {
     let w = side(lw);

@@ -12,7 +12,7 @@ ghost use Rattle.refusals.specs.Faults.{verdictOutcome};
 ghost use Rattle.decoding.specs.Call.{levelsLent, scaleVerdict, scaleBuffer};
 ghost use Rattle.decoding.specs.Call.{coefficientsLent, inverseVerdict, inverseBuffer};
 
-mod block;
+pub mod block;
 
 // The levels of a square block at the front of the buffer, by rows, become its coefficients.
 pub fn scale_back(block: &mut [i16], log2_side: usize, qp: u32) -> Verdict
@@ -36,8 +36,10 @@ pub fn scale_back(block: &mut [i16], log2_side: usize, qp: u32) -> Verdict
 
 // The coefficients of a block at the front of the buffer, by rows, become its residuals.
 pub fn inverse(block: &mut [i16], log2_w: usize, log2_h: usize) -> Verdict
-    ensures answer { λ r. ⌜ verdictOutcome r ≡ inverseVerdict (coefficientsLent (now (block .entry)) «log2_w» «log2_h») ⌝ }
-    ensures buffer { λ _. ⌜ now (block .exit) ≡ inverseBuffer (coefficientsLent (now (block .entry)) «log2_w» «log2_h») ⌝ }
+    ensures answer { λ r. ⌜ verdictOutcome r
+        ≡ inverseVerdict (coefficientsLent (now (block .entry)) «log2_w» «log2_h») ⌝ }
+    ensures buffer { λ _. ⌜ now (block .exit)
+        ≡ inverseBuffer (coefficientsLent (now (block .entry)) «log2_w» «log2_h») ⌝ }
 {
     if no_side(log2_w) {
         return Verdict::Refused(Refusal::Side);

@@ -1,4 +1,4 @@
--- A sample as a residual and back, and the difference of two pictures. The guess is 700.
+-- A sample as a residual and back, and the difference and darkening of two pictures. The guess is 700.
 use mathlib.Core.Path.{_≡_}
 use mathlib.Core.Bool.{cond}
 use mathlib.Core.List.{List}
@@ -38,17 +38,24 @@ unfoldable pub blockApart : Size → ℕ → (seen view : List ℕ) → ℕ
 unfolding sum apartAt
 blockApart size block seen view = sum onMax 64 (apartAt size block seen view)
 
+-- how much less is shown than the camera saw: 0 where it is not less
+unfoldable pub darkerOf : (seen view : ℕ) → ℕ
+darkerOf seen view = seen - view
+
 -- at place p of two pictures
 abbrev pub apartIn : (camera shown : List ℕ) → ℕ → ℕ
 apartIn camera shown p = apartOf (getD camera p 0) (getD shown p 0)
 
--- none of the first n samples lies farther apart than the one at `at`, and each one before it less far
-pub record Farthest (camera shown : List ℕ) (n : ℕ) (r : Worst) : Type 0 where
-  pub within : r .at < n
-  pub is : r .most ≡ apartIn camera shown (r .at)
-  pub none : (p : ℕ) → p < n → apartIn camera shown p ≤ r .most
-  pub first : (p : ℕ) → p < r .at → apartIn camera shown p < r .most
+abbrev pub darkerIn : (camera shown : List ℕ) → ℕ → ℕ
+darkerIn camera shown p = darkerOf (getD camera p 0) (getD shown p 0)
 
--- one sample more, at place p and d apart
+-- by a distance d of each place: none of the first n lies farther than the one at `at`, and each one before it less far
+pub record Farthest (d : ℕ → ℕ) (n : ℕ) (r : Worst) : Type 0 where
+  pub within : r .at < n
+  pub is : r .most ≡ d (r .at)
+  pub none : (p : ℕ) → p < n → d p ≤ r .most
+  pub first : (p : ℕ) → p < r .at → d p < r .most
+
+-- one place more, p, at a distance d
 unfoldable pub fartherOf : Worst → (d p : ℕ) → Worst
 fartherOf best d p = cond (ltb (best .most) d) (record { most = d; at = p }) best

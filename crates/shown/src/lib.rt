@@ -1,5 +1,6 @@
 // What the viewer shows of a block, beside what the camera saw: the residuals that are coded, the samples made of those
-// that come back, and how far the two pictures lie apart. The guess is 700 at every sample: light paper.
+// that come back, how far the two pictures lie apart, and how much darker the one shown is. The guess is 700 at every
+// sample: light paper. A block of 64 stands in front of 32 samples of chroma, which are not coded.
 use coefficients::skip::absolute;
 use picture::Size;
 use picture::inside;
@@ -8,7 +9,7 @@ ghost use Prim.Native.Nat.{_≤_, _<_, max};
 ghost use lib.ListN.{length};
 ghost use Rattle.picture.specs.Picture.{Sides};
 ghost use Rattle.shown.specs.Shown.{residualOf, viewedOf, apartOf, apartAt, Residuals, Views, blockApart};
-ghost use Rattle.shown.specs.Shown.{Farthest, fartherOf};
+ghost use Rattle.shown.specs.Shown.{darkerOf, apartIn, darkerIn, Farthest, fartherOf};
 
 // A sample of 10 bits less the guess.
 fn residual(sample: u16) -> i16
@@ -37,10 +38,10 @@ fn viewed(residual: i16) -> u16
     1023
 }
 
-pub fn residuals(seen: &[u16; 64]) -> [i16; 64]
+pub fn residuals(seen: &[u16; 64]) -> [i16; 96]
     ensures { λ r. ⌜ Residuals (now (seen .entry)) r ⌝ }
 {
-    let mut block = [0i16; 64];
+    let mut block = [0i16; 96];
     let mut i = 0;
     while i < 64 {
         block[i] = residual(seen[i]);
@@ -49,7 +50,7 @@ pub fn residuals(seen: &[u16; 64]) -> [i16; 64]
     block
 }
 
-pub fn views(block: &[i16; 64]) -> [u16; 64]
+pub fn views(block: &[i16; 96]) -> [u16; 64]
     ensures { λ r. ⌜ Views (now (block .entry)) r ⌝ }
 {
     let mut view = [0u16; 64];
@@ -65,6 +66,12 @@ fn apart(a: u16, b: u16) -> u16
     ensures { λ r. ⌜ r ≡ apartOf a b ⌝ }
 {
     if a < b { b - a } else { a - b }
+}
+
+fn darker(seen: u16, view: u16) -> u16
+    ensures { λ r. ⌜ r ≡ darkerOf seen view ⌝ }
+{
+    if view < seen { seen - view } else { 0 }
 }
 
 fn larger(a: u16, b: u16) -> u16
@@ -98,7 +105,7 @@ pub fn block_apart(size: Size, b: usize, seen: &[u16; 64], view: &[u16; 64]) -> 
     top
 }
 
-// The largest difference of a sample, and the first place that has it.
+// The largest difference or darkening of a sample, and the first place that has it.
 pub struct Worst {
     pub most: u16,
     pub at: usize,
@@ -113,10 +120,10 @@ fn farther(best: Worst, d: u16, p: usize) -> Worst
     best
 }
 
-// Of the first n samples of two pictures.
+// The largest difference of the first n samples of two pictures.
 pub fn farthest(camera: &[u16], shown: &[u16], n: usize) -> Worst
     requires { ⌜ (1 ≤ n) × (n ≤ length (now camera)) × (n ≤ length (now shown)) ⌝ }
-    ensures { λ r. ⌜ Farthest (now (camera .entry)) (now (shown .entry)) n r ⌝ }
+    ensures { λ r. ⌜ Farthest (apartIn (now (camera .entry)) (now (shown .entry))) n r ⌝ }
 {
     let mut best = Worst {
         most: apart(camera[0], shown[0]),
@@ -125,6 +132,23 @@ pub fn farthest(camera: &[u16], shown: &[u16], n: usize) -> Worst
     let mut p = 1;
     while p < n {
         best = farther(best, apart(camera[p], shown[p]), p);
+        p += 1;
+    }
+    best
+}
+
+// The largest darkening of the first n samples: how much less is shown than the camera saw.
+pub fn darkest(camera: &[u16], shown: &[u16], n: usize) -> Worst
+    requires { ⌜ (1 ≤ n) × (n ≤ length (now camera)) × (n ≤ length (now shown)) ⌝ }
+    ensures { λ r. ⌜ Farthest (darkerIn (now (camera .entry)) (now (shown .entry))) n r ⌝ }
+{
+    let mut best = Worst {
+        most: darker(camera[0], shown[0]),
+        at: 0,
+    };
+    let mut p = 1;
+    while p < n {
+        best = farther(best, darker(camera[p], shown[p]), p);
         p += 1;
     }
     best

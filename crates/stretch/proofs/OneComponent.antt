@@ -20,7 +20,6 @@ use Rattle.components.specs.declared.Request.{Request}
 use Rattle.components.specs.Call.{bit}
 use Rattle.components.proofs.Log2.{log2-inside}
 use Rattle.components.proofs.Blocks.{block-accepted, block-leaves}
-use Rattle.admission.specs.Inner.Tested.{setOf}
 use Rattle.stretch.specs.Inner.Part.{log2In, codingOf, quantIn, Ready, partAnswer, partLeft}
 
 module _ (k : Component) (t : Costs) (q : Request) (r : List ℤ) (ready : Ready k t q r)
@@ -45,25 +44,13 @@ module _ (k : Component) (t : Costs) (q : Request) (r : List ℤ) (ready : Ready
   trans-passes l e = subst (λ (n : ℕ). transVerdict (trans.called r n n) ≡ passed) (sym e) trans-accepted
 
   -- the call that the quantiser is given is the definition's, by what it is asked and the buffer that it is lent
-  module _ (b : List ℤ) (c : Coding) (component : c .component ≡ k) (slice : c .«intra_slice» ≡ q .«intra_slice»)
-      (intra : c .«intra_coded» ≡ q .«intra_coded») (mode : c .mode ≡ q .mode)
-      (log2 : c .log2 ≡ log2In k q) (settings : c .settings ≡ setOf k q)
+  module _ (b : List ℤ) (c : Coding) (asked : c ≡ codingOf k q)
       (transformed : b ≡ transBuffer (trans.called r (c .log2) (c .log2))) where
-    asked : c ≡ codingOf k q
-    asked = λ i. record {
-      log2 = log2 i;
-      component = component i;
-      settings = settings i;
-      «intra_slice» = slice i;
-      «intra_coded» = intra i;
-      mode = mode i;
-    }
-
     quant-called : called b t c ≡ quantIn k t q r
     unfolding quantIn
     quant-called =
-        ap (λ (x : List ℤ). called x t c) (transformed ∙ trans-leaves (c .log2) log2)
-        ∙ (λ i. called (coefficients r (log2 i) (log2 i)) t (asked i))
+        ap (λ (x : List ℤ). called x t c) (transformed ∙ trans-leaves (c .log2) (ap (λ (x : Coding). x .log2) asked))
+        ∙ ap (λ (x : Coding). called (coefficients r (x .log2) (x .log2)) t x) asked
 
     -- what the quantiser makes of it is what is said of the component
     pub part-coded : (answer : Outcome Coded) (left : List ℤ) → answer ≡ quantAnswer (called b t c)

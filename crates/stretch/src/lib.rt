@@ -14,7 +14,7 @@ ghost use Prim.Native.Nat.{_≤_};
 ghost use Rattle.price.specs.Costs.{costsOf};
 ghost use Rattle.coding.specs.Call.{quantOutcome};
 ghost use Rattle.components.specs.Call.{log2Of};
-ghost use Rattle.stretch.specs.Inner.Part.{Ready, partAnswer, partLeft};
+ghost use Rattle.stretch.specs.Inner.Part.{codingOf, Ready, partAnswer, partLeft};
 
 // A component's log2 side, by luma's.
 fn log2_of(log2_luma: usize, component: Component) -> usize
@@ -25,6 +25,24 @@ fn log2_of(log2_luma: usize, component: Component) -> usize
         Component::Y => log2_luma,
         Component::U => log2_luma - 1,
         Component::V => log2_luma - 1,
+    }
+}
+
+// What the quantiser is asked of a component.
+pub fn coding_of(q: Request, component: Component) -> Coding
+    requires { ⌜ 1 ≤ q .«log2_luma» ⌝ }
+    ensures { λ r. ⌜ r ≡ codingOf component q ⌝ }
+{
+    let log2 = log2_of(q.log2_luma, component);
+    let settings = settings_of(q, component);
+    let mode = q.mode;
+    Coding {
+        log2: log2,
+        component: component,
+        settings: settings,
+        intra_slice: q.intra_slice,
+        intra_coded: q.intra_coded,
+        mode: mode,
     }
 }
 
@@ -41,17 +59,8 @@ pub fn code_component(
         (part .entry)) ⌝ }
 {
     if is_run(q.run, component) {
-        let log2 = log2_of(q.log2_luma, component);
-        let settings = settings_of(q, component);
-        let mode = q.mode;
-        let coding = Coding {
-            log2: log2,
-            component: component,
-            settings: settings,
-            intra_slice: q.intra_slice,
-            intra_coded: q.intra_coded,
-            mode: mode,
-        };
+        let coding = coding_of(q, component);
+        let log2 = coding.log2;
         let t = trans(part, log2, log2);
         return match t {
             Verdict::Refused(why) => QuantAnswer::Refused(why, component),

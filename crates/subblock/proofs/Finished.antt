@@ -22,15 +22,11 @@ use Rattle.components.specs.Inner.Groups.{settingsFaults, bufferFaults, EarlyPa
 use Rattle.components.proofs.Late.{verdict-in-groups}
 use Rattle.components.proofs.Answer.{coded-accepted, refused-answer, refused-leaves, refused-verdict}
 use Rattle.admission.specs.Inner.Tested.{Sizes, residuals}
-use Rattle.admission.proofs.Stretches.{y-long}
 use Rattle.stretch.specs.Inner.Part.{Ready, partAnswer, partLeft}
-use Rattle.turns.specs.Inner.Parts.{AllReady, joined, Parted}
-use Rattle.subblock.proofs.Passed.{room, room-holds, all-ready}
+use Rattle.turns.specs.Inner.Parts.{joined, Parted, shares, answerIn, leftIn}
+use Rattle.turns.proofs.ThreeParts.{front}
+use Rattle.turns.proofs.Passed.{room, room-holds, stretch-ready}
 use Rattle.subblock.proofs.Whole.{answer-is, coded-leaves}
-
--- a part from place 0 on is a front
-pub front : (b l : List ℤ) (v : ℕ) → l ≡ take (v - 0) b → l ≡ take v b
-front b l v e = e ∙ ap (λ (k : ℕ). take k b) (y-long v)
 
 -- ---- a call that an early test refuses
 module _ (b : List ℤ) (t : Costs) (q : Request) (m k : ℕ) where
@@ -62,38 +58,35 @@ module _ (b : List ℤ) (t : Costs) (q : Request) (n : ℕ) (z : Sizes (q .«log
   is : (k : Component) → residuals k n space ≡ stretch k s
   is = room-holds b t q n z (passed .settings) (passed .buffer)
 
-  all : AllReady t q n space
-  all = all-ready b t q n z (passed .settings) (passed .buffer)
-
   ready : (k : Component) → Ready k t q (stretch k s)
-  ready Y = subst (λ (r : List ℤ). Ready Y t q r) (is Y) (all .y)
-  ready U = subst (λ (r : List ℤ). Ready U t q r) (is U) (all .u)
-  ready «V» = subst (λ (r : List ℤ). Ready «V» t q r) (is «V») (all .v)
+  ready = stretch-ready b t q n z (passed .settings) (passed .buffer)
 
   module _ (before after : List ℤ) (r : SubBlockAnswer) (copied : before ≡ take (n + n / 4 + n / 4 - 0) b)
-      (done : Parted t q n before after r) where
-    p : Parted t q n space after r
-    p = subst (λ (l : List ℤ). Parted t q n l after r) (front b before (n + n / 4 + n / 4) copied) done
+      (done : Parted shares (answerIn t q n before) (leftIn t q n before) after (subBlockOutcome r)) where
+    p : Parted shares (answerIn t q n space) (leftIn t q n space) after (subBlockOutcome r)
+    p =
+        subst (λ (l : List ℤ). Parted shares (answerIn t q n l) (leftIn t q n l) after (subBlockOutcome r))
+        (front b before (n + n / 4 + n / 4) copied) done
 
     pub finished-answer : subBlockOutcome r ≡ subBlockAnswer s
     finished-answer =
         p .answer
-        ∙ (λ i. joined (partAnswer Y t q (is Y i)) (partAnswer U t q (is U i)) (partAnswer «V» t q (is «V» i)))
+        ∙ (λ i. joined shares (partAnswer Y t q (is Y i)) (partAnswer U t q (is U i)) (partAnswer «V» t q (is «V» i)))
         ∙ answer-is b t q n z ready (passed .settings) (passed .buffer)
 
-    pub finished-coded : (x y w : Coded) → r ≡ answers.Coded x y w
+    pub finished-coded : {x y w : Coded} → r ≡ answers.Coded x y w
         → subBlockBuffer s ≡ after ++ drop (n + n / 4 + n / 4) b
-    finished-coded x y w e =
+    finished-coded {x = x} {y = y} {w = w} e =
         let c = ap subBlockOutcome e in
         coded-leaves b t q n z ready (passed .settings) (passed .buffer)
         (coded-accepted s x y w (sym finished-answer ∙ c))
         after
-        (p .left x y w c
+        (p .left (shares x y w) c
         ∙ (λ i. partLeft Y t q (is Y i) ++ (partLeft U t q (is U i) ++ partLeft «V» t q (is «V» i))))
 
-    pub finished-refused : (why : Refusal) (k : Component) → r ≡ answers.Refused why k → subBlockBuffer s ≡ b
+    pub finished-refused : {why : Refusal} {k : Component} → r ≡ answers.Refused why k → subBlockBuffer s ≡ b
     unfolding requested
-    finished-refused why k e =
+    finished-refused {why = why} {k = k} e =
         let m = numberOf why in
         let c = componentOf k in
         refused-leaves s m c (refused-verdict s m c (sym finished-answer ∙ ap subBlockOutcome e))

@@ -7,38 +7,13 @@ use admission::test_settings;
 use components::Request;
 use components::SubBlockAnswer;
 use turns::code_parts;
+use turns::copy;
+use turns::write_back;
 ghost use mathlib.Core.Path.{_≡_};
-ghost use mathlib.Core.List.{_++_};
-ghost use Prim.Native.Nat.{_+_, _/_, _≤_};
-ghost use lib.ListN.{length, drop};
 ghost use Rattle.price.specs.Costs.{costsOf};
 ghost use Rattle.components.specs.Call.{requested, subBlockOutcome, subBlockAnswer, subBlockBuffer};
 ghost use Rattle.components.specs.Inner.Groups.{EarlyPassed};
 ghost use Rattle.subblock.specs.Inner.Room.{Roomy};
-
-fn copy(from: &[i16], to: &mut [i16])
-    requires { ⌜ (length (now from) ≡ length (now to)) × (length (now to) ≤ 1536) ⌝ }
-    ensures { λ _. ⌜ now (to .exit) ≡ now (from .entry) ⌝ }
-{
-    let n = to.len();
-    let mut i = 0;
-    while i < n {
-        to[i] = from[i];
-        i += 1;
-    }
-}
-
-// The three stretches of the buffer, from the room.
-fn write_back(room: &[i16], buffer: &mut [i16], n: usize)
-    requires { ⌜ (n ≤ 1024) × (length (now room) ≡ n + n / 4 + n / 4) × (n + n / 4 + n / 4 ≤ length (now buffer)) ⌝ }
-    ensures { λ _. ⌜ now (buffer .exit) ≡ now (room .entry) ++ drop (n + n / 4 + n / 4) (now (buffer .entry)) ⌝ }
-{
-    let u_end = n + n / 4;
-    let v_end = u_end + n / 4;
-    copy(&room[0..n], &mut buffer[0..n]);
-    copy(&room[n..u_end], &mut buffer[n..u_end]);
-    copy(&room[u_end..v_end], &mut buffer[u_end..v_end]);
-}
 
 // The components are coded in a room that the call is lent; the buffer is written once all three have passed.
 fn code_in(

@@ -24,7 +24,10 @@ use Rattle.coding.specs.Call.{quantAnswer, quantBuffer}
 use Rattle.coding.proofs.Numbers.{p, m, parts}
 use Rattle.components.specs.Call.{SubBlock, subBlockAnswer, subBlockBuffer}
 use Rattle.components.specs.Call as three
+use Rattle.heights.specs.Call.{Measure, lent, measureAnswer}
+use Rattle.guarding.specs.Call.{GuardedBlock, guardedRequest, guardedAnswer, guardedBuffer}
 use Rattle.surface.specs.Surface.{resultOf, quantAsked, quantWritten, threeAsked, threeWritten}
+use Rattle.surface.specs.Surface.{guardedAsked, guardedWritten, measureWritten}
 
 -- run, level, last and cbf
 abbrev costs : List ℕ
@@ -157,3 +160,65 @@ pub inverse :
     × Restores (coefficientsLent (p 7 ∷ []) 1 1) 5 (p 7 ∷ [])
 unfolding inverseBuffer
 inverse = ((refl, refl), (refl, refl), (refl, refl), (refl, refl), (refl, refl))
+
+-- ---- the guarded call, luma 4×4, with a surplus: the heights are the extremes of what is written, no two of them
+-- equal, so that the answer is another where two heights are exchanged
+abbrev guard : (run flags : ℕ) → (heights : List ℕ) → List ℤ → GuardedBlock
+guard run flags heights buffer =
+    guardedAsked buffer 2 (31 ∷ 14 ∷ 24 ∷ []) (parts 1500 ∷ parts 2000 ∷ parts 900 ∷ []) run flags costs heights
+
+abbrev Guards : GuardedBlock → ℕ → List ℕ → List ℤ → Type 0
+Guards g result written after =
+    (resultOf (guardedAnswer g) ≡ result) × (guardedWritten (guardedAnswer g) ≡ written) × (guardedBuffer g ≡ after)
+
+-- luma's residuals of one of the two buffers, which a call keeps that does not run it, and all of that buffer
+abbrev luma : List ℤ
+luma =
+    p 4 ∷ p 5 ∷ p 28 ∷ p 5 ∷ m 18 ∷ m 19 ∷ m 10 ∷ m 10 ∷ p 7 ∷ m 23 ∷ p 32 ∷ m 26 ∷ p 6 ∷ m 33 ∷ m 23 ∷ p 29 ∷ []
+
+abbrev whole : List ℤ
+whole = luma ++ (m 2 ∷ m 5 ∷ m 9 ∷ p 4 ∷ p 11 ∷ m 12 ∷ p 20 ∷ m 12 ∷ p 77 ∷ [])
+
+pub guarded :
+    -- the walk's blocks, the first 8 places of Y put back; the cheapest blocks, the first 2 places of U put back
+    Guards (guard 7 2 (15 ∷ 1 ∷ 5 ∷ 9 ∷ 2 ∷ 4 ∷ []) whole) 0
+    (0 ∷ 13 ∷ 3 ∷ 1 ∷ 64550752087 ∷ 1340826756 ∷ 4186996535 ∷ 15 ∷ 1 ∷ 5 ∷ 9 ∷ 2 ∷ 4 ∷ [])
+    (m 1 ∷ m 1 ∷ p 0 ∷ p 1 ∷ p 1 ∷ p 0 ∷ m 2 ∷ p 0 ∷ p 1 ∷ m 1 ∷ p 1 ∷ m 1 ∷ p 1 ∷ p 1 ∷ m 1 ∷ p 1
+    ∷ m 2 ∷ m 2 ∷ p 0 ∷ p 2 ∷ p 0 ∷ p 3 ∷ p 0 ∷ p 0 ∷ p 77 ∷ [])
+    × Guards
+    (guard 7 6 (9 ∷ 2 ∷ 3 ∷ 11 ∷ 1 ∷ 5 ∷ [])
+    (p 36 ∷ p 2 ∷ m 36 ∷ p 19 ∷ m 12 ∷ p 9 ∷ p 36 ∷ m 16 ∷ p 11 ∷ p 29 ∷ p 34 ∷ p 24 ∷ p 12 ∷ m 15 ∷ m 36 ∷ p 28
+    ∷ p 12 ∷ m 1 ∷ m 7 ∷ m 10 ∷ p 13 ∷ m 4 ∷ m 15 ∷ m 4 ∷ p 77 ∷ []))
+    0 (0 ∷ 10 ∷ 4 ∷ 2 ∷ 41747107719 ∷ 1816772839 ∷ 4785929818 ∷ 9 ∷ 2 ∷ 3 ∷ 11 ∷ 1 ∷ 5 ∷ [])
+    (p 1 ∷ p 0 ∷ p 1 ∷ p 0 ∷ p 0 ∷ p 1 ∷ p 0 ∷ p 0 ∷ m 1 ∷ p 1 ∷ p 3 ∷ m 1 ∷ p 1 ∷ p 0 ∷ p 1 ∷ m 1
+    ∷ m 1 ∷ p 3 ∷ p 4 ∷ p 2 ∷ p 0 ∷ p 0 ∷ p 1 ∷ p 1 ∷ p 77 ∷ [])
+    -- the first of these without Y, whose heights mean nothing then
+    × Guards (guard 6 2 (0 ∷ 1 ∷ 5 ∷ 0 ∷ 2 ∷ 4 ∷ []) whole) 0
+    (0 ∷ 0 ∷ 3 ∷ 1 ∷ 0 ∷ 1340826756 ∷ 4186996535 ∷ 0 ∷ 1 ∷ 5 ∷ 0 ∷ 2 ∷ 4 ∷ [])
+    (luma ++ (m 2 ∷ m 2 ∷ p 0 ∷ p 2 ∷ p 0 ∷ p 3 ∷ p 0 ∷ p 0 ∷ p 77 ∷ []))
+    -- refused: U would get lighter by 2
+    × Guards (guard 6 2 (0 ∷ 1 ∷ 5 ∷ 0 ∷ 1 ∷ 4 ∷ []) whole) 15
+    (1 ∷ 0 ∷ 0 ∷ 0 ∷ 0 ∷ 0 ∷ 0 ∷ 0 ∷ 0 ∷ 0 ∷ 0 ∷ 0 ∷ 0 ∷ []) whole
+unfolding guardedRequest guardedAnswer guardedBuffer costsOf
+guarded = ((refl, refl, refl), (refl, refl, refl), (refl, refl, refl), (refl, refl, refl))
+
+-- ---- `measure`, 2×2: accepted, with a surplus behind either list, and with the lists exchanged; refused with 1, with
+-- 2, and with 5 for either list
+abbrev Measures : Measure → ℕ → List ℕ → Type 0
+Measures a result written = (resultOf (measureAnswer a) ≡ result) × (measureWritten (measureAnswer a) ≡ written)
+
+abbrev five : List ℤ
+five = p 50 ∷ m 30 ∷ p 7 ∷ m 100 ∷ p 900 ∷ []
+
+abbrev others : List ℤ
+others = p 3 ∷ m 1 ∷ p 0 ∷ p 2 ∷ m 5 ∷ []
+
+pub measure :
+    Measures (lent five others 1 17) 0 (41 ∷ 114 ∷ [])
+    × Measures (lent others five 1 17) 0 (167 ∷ 422 ∷ [])
+    × Measures (lent (p 1 ∷ []) (p 2 ∷ []) 0 64) 1 (0 ∷ 0 ∷ [])
+    × Measures (lent (p 1 ∷ []) (p 2 ∷ []) 1 64) 2 (0 ∷ 0 ∷ [])
+    × Measures (lent (p 1 ∷ p 2 ∷ p 3 ∷ []) five 1 63) 5 (0 ∷ 0 ∷ [])
+    × Measures (lent five (p 1 ∷ p 2 ∷ p 3 ∷ []) 1 63) 5 (0 ∷ 0 ∷ [])
+unfolding measureAnswer back
+measure = ((refl, refl), (refl, refl), (refl, refl), (refl, refl), (refl, refl), (refl, refl))

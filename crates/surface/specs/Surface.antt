@@ -3,7 +3,7 @@
 use mathlib.Core.Path.{_≡_}
 use mathlib.Core.Bool.{Bool, cond}
 use mathlib.Core.List.{List, [], _∷_}
-use Prim.Native.Nat.{ℕ, _/_, _%_}
+use Prim.Native.Nat.{ℕ, _+_, _/_, _%_}
 use lib.Dec.{eqb}
 use lib.Ieee.{Float, nan}
 use lib.IntN.{ℤ}
@@ -22,6 +22,12 @@ use Rattle.coding.specs.Block.{Quant, called}
 use Rattle.coding.specs.Call.{quantAnswer, quantBuffer}
 use Rattle.components.specs.declared.Request.{Request}
 use Rattle.components.specs.Call.{SubBlock, requested, Shares, subBlockAnswer, subBlockBuffer}
+use Rattle.heights.specs.declared.Extremes.{Extremes}
+use Rattle.heights.specs.declared.Heights.{Heights}
+use Rattle.heights.specs.Call.{Measure, measureAnswer}
+use Rattle.guarding.specs.declared.ThreeHeights.{ThreeHeights}
+use Rattle.guarding.specs.Call.{GuardedBlock, guardedRequest, guardedAnswer, guardedBuffer}
+use Rattle.guarding.specs.Call as guarding
 
 -- a call's result
 abbrev pub resultOf : {A : Type 0} → Outcome A → ℕ
@@ -113,3 +119,39 @@ pub record ThreeLeft (s : SubBlock) (r : ℕ) (answer : List ℕ) (buffer : List
   pub result : r ≡ resultOf (subBlockAnswer s)
   pub written : answer ≡ threeWritten (subBlockAnswer s)
   pub left : buffer ≡ subBlockBuffer s
+
+-- ---- the guarded call: that of three components, and six heights, of Y, U, V darker, then of Y, U, V lighter
+abbrev pub heightsIn : List ℕ → ℕ → Heights
+heightsIn heights k = record { darker = getD heights k 0; lighter = getD heights (3 + k) 0 }
+
+abbrev pub heightsBy : List ℕ → ThreeHeights
+heightsBy heights = record { y = heightsIn heights 0; u = heightsIn heights 1; v = heightsIn heights 2 }
+
+abbrev pub guardedAsked : List ℤ → (log2 : ℕ) → List ℕ → List Float → (run flags : ℕ) → (costs heights : List ℕ)
+    → GuardedBlock
+guardedAsked buffer log2 qp lambda run flags costs heights =
+    guardedRequest buffer (costsOf costs) (requestBy log2 qp lambda run flags) (heightsBy heights)
+
+-- its answer: the component, the counts of Y, U, V, their prices, how much darker they get, how much lighter
+abbrev pub guardedWritten : Outcome guarding.Shares → List ℕ
+guardedWritten (accepted a) =
+    0 ∷ a .y .count ∷ a .u .count ∷ a .v .count ∷ a .y .price ∷ a .u .price ∷ a .v .price
+    ∷ a .y .darker ∷ a .u .darker ∷ a .v .darker ∷ a .y .lighter ∷ a .u .lighter ∷ a .v .lighter ∷ []
+guardedWritten (refused number component) =
+    component ∷ 0 ∷ 0 ∷ 0 ∷ 0 ∷ 0 ∷ 0 ∷ 0 ∷ 0 ∷ 0 ∷ 0 ∷ 0 ∷ 0 ∷ []
+
+-- what it leaves: result, answer and buffer
+pub record GuardedLeft (g : GuardedBlock) (r : ℕ) (answer : List ℕ) (buffer : List ℤ) : Type 0 where
+  pub result : r ≡ resultOf (guardedAnswer g)
+  pub written : answer ≡ guardedWritten (guardedAnswer g)
+  pub left : buffer ≡ guardedBuffer g
+
+-- ---- `measure`, which writes no sample: its answer is how much darker and how much lighter
+abbrev pub measureWritten : Outcome Extremes → List ℕ
+measureWritten (accepted e) = e .darker ∷ e .lighter ∷ []
+measureWritten (refused number component) = 0 ∷ 0 ∷ []
+
+-- what it leaves: result and answer
+pub record MeasureLeft (m : Measure) (r : ℕ) (answer : List ℕ) : Type 0 where
+  pub result : r ≡ resultOf (measureAnswer m)
+  pub written : answer ≡ measureWritten (measureAnswer m)

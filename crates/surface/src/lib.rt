@@ -6,6 +6,10 @@ use coding::Mode;
 use coding::QuantAnswer;
 use components::Request;
 use components::SubBlockAnswer;
+use guarding::GuardedAnswer;
+use guarding::ThreeHeights;
+use heights::Heights;
+use heights::MeasureAnswer;
 use price::Settings;
 use refusals::Component;
 use refusals::Verdict;
@@ -15,7 +19,10 @@ ghost use mathlib.Core.Path.{_≡_};
 ghost use Rattle.refusals.specs.Faults.{verdictOutcome};
 ghost use Rattle.coding.specs.Call.{quantOutcome};
 ghost use Rattle.components.specs.Call.{subBlockOutcome};
+ghost use Rattle.heights.specs.Call.{measureOutcome};
+ghost use Rattle.guarding.specs.Call.{guardedOutcome};
 ghost use Rattle.surface.specs.Surface.{resultOf, modeIn, codingBy, quantWritten, requestBy, threeWritten};
+ghost use Rattle.surface.specs.Surface.{heightsBy, guardedWritten, measureWritten};
 
 // What a call that answers a verdict alone has said, as its result.
 pub fn result_of(verdict: Verdict) -> u32
@@ -118,6 +125,75 @@ pub fn put_three(coded: SubBlockAnswer, answer: &mut [u64; 7]) -> u32
         }
         SubBlockAnswer::Refused(why, k) => {
             *answer = [component_number(k) as u64, 0, 0, 0, 0, 0, 0];
+            number(why)
+        }
+    }
+}
+
+// Six heights, of Y, U, V darker, then of Y, U, V lighter, by component.
+pub fn heights_of(heights: &[u32; 6]) -> ThreeHeights
+    ensures { λ r. ⌜ r ≡ heightsBy (now (heights .entry)) ⌝ }
+{
+    ThreeHeights {
+        y: Heights {
+            darker: heights[0],
+            lighter: heights[3],
+        },
+        u: Heights {
+            darker: heights[1],
+            lighter: heights[4],
+        },
+        v: Heights {
+            darker: heights[2],
+            lighter: heights[5],
+        },
+    }
+}
+
+// What the guarded call answered, as its result and its answer.
+pub fn put_guarded(coded: GuardedAnswer, answer: &mut [u64; 13]) -> u32
+    ensures result { λ r. ⌜ r ≡ resultOf (guardedOutcome coded) ⌝ }
+    ensures answer { λ _. ⌜ now (answer .exit) ≡ guardedWritten (guardedOutcome coded) ⌝ }
+{
+    match coded {
+        GuardedAnswer::Coded(y, u, v) => {
+            *answer = [
+                0,
+                y.count as u64,
+                u.count as u64,
+                v.count as u64,
+                y.price,
+                u.price,
+                v.price,
+                y.darker as u64,
+                u.darker as u64,
+                v.darker as u64,
+                y.lighter as u64,
+                u.lighter as u64,
+                v.lighter as u64,
+            ];
+            0
+        }
+        GuardedAnswer::Refused(why, k) => {
+            let component = component_number(k) as u64;
+            *answer = [component, 0, 0, 0, 0, 0, 0, 0, 0, 0, 0, 0, 0];
+            number(why)
+        }
+    }
+}
+
+// What `measure` answered, as its result and its answer.
+pub fn put_measure(measured: MeasureAnswer, answer: &mut [u64; 2]) -> u32
+    ensures result { λ r. ⌜ r ≡ resultOf (measureOutcome measured) ⌝ }
+    ensures answer { λ _. ⌜ now (answer .exit) ≡ measureWritten (measureOutcome measured) ⌝ }
+{
+    match measured {
+        MeasureAnswer::Measured(e) => {
+            *answer = [e.darker as u64, e.lighter as u64];
+            0
+        }
+        MeasureAnswer::Refused(why) => {
+            *answer = [0, 0];
             number(why)
         }
     }

@@ -1,14 +1,14 @@
 // The odd rows of the matrices, as the butterflies read them: of side 2h the first halves, column after column, so that
 // one value meets the h entries of its column in a row. Taken once a call; in 32 bits for the forward transform, in 16
 // for the inverse.
-use crate::matrices::ODD_2;
-use crate::matrices::ODD_4;
-use crate::matrices::ODD_8;
-use crate::matrices::ODD_16;
 use crate::matrices::NARROW_2;
 use crate::matrices::NARROW_4;
 use crate::matrices::NARROW_8;
 use crate::matrices::NARROW_16;
+use crate::matrices::ODD_2;
+use crate::matrices::ODD_4;
+use crate::matrices::ODD_8;
+use crate::matrices::ODD_16;
 ghost use mathlib.Core.Path.{_≡_};
 ghost use Rattle.tables.specs.Inner.OddRows.{oddRows};
 

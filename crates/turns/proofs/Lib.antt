@@ -1,2 +1,4 @@
 pub mod ThreeParts
 pub mod Turns
+pub mod Passed
+pub mod Alone

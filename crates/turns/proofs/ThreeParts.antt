@@ -27,15 +27,9 @@ module _ (l : List ℤ) (n : ℕ) where
 put-at : (p t y : List ℤ) (n k : ℕ) → length p ≡ n → putMid n k (p ++ t) y ≡ p ++ (y ++ drop k t)
 put-at p t y n k e = rw (take-at p t n e, drop-at p t n e)
 
-module _ (l a b : List ℤ) (n : ℕ) (ka : length a ≡ n) (kb : length b ≡ n / 4) where
+module _ (l a : List ℤ) (n : ℕ) (ka : length a ≡ n) where
   once : after-y l n a ≡ a ++ drop n l
   once = rw (y-long n)
-
-  twice : after-u l n a b ≡ (a ++ b) ++ drop (n + n / 4) l
-  twice =
-      (λ i. putMid n (u-long n (n / 4) i) (once i) b)
-      ∙ put-at a (drop n l) b n (n / 4) ka
-      ∙ rw (drop-drop, append-assoc)
 
   pub second-holds : lent U n (after-y l n a) ≡ residuals U n l
   second-holds =
@@ -43,21 +37,28 @@ module _ (l a b : List ℤ) (n : ℕ) (ka : length a ≡ n) (kb : length b ≡ n
       ∙ ap (residuals U n) once
       ∙ ap (take (n / 4)) (drop-at a (drop n l) n ka)
 
-  joined-length : length (a ++ b) ≡ n + n / 4
-  joined-length = length-append a b ∙ omega arith
+  module _ (b : List ℤ) (kb : length b ≡ n / 4) where
+    twice : after-u l n a b ≡ (a ++ b) ++ drop (n + n / 4) l
+    twice =
+        (λ i. putMid n (u-long n (n / 4) i) (once i) b)
+        ∙ put-at a (drop n l) b n (n / 4) ka
+        ∙ rw (drop-drop, append-assoc)
 
-  pub third-holds : lent «V» n (after-u l n a b) ≡ residuals «V» n l
-  third-holds =
-      lent-is «V» n (after-u l n a b)
-      ∙ ap (residuals «V» n) twice
-      ∙ ap (take (n / 4)) (drop-at (a ++ b) (drop (n + n / 4) l) (n + n / 4) joined-length)
+    joined-length : length (a ++ b) ≡ n + n / 4
+    joined-length = length-append a b ∙ omega arith
 
-  pub three-put : (c : List ℤ) → after-v l n a b c ≡ (a ++ (b ++ c)) ++ drop (n + n / 4 + n / 4) l
-  three-put c =
-      (λ i. putMid (n + n / 4) (v-long n (n / 4) i) (twice i) c)
-      ∙ put-at (a ++ b) (drop (n + n / 4) l) c (n + n / 4) (n / 4) joined-length
-      ∙ ap (λ (x : List ℤ). (a ++ b) ++ (c ++ x)) (drop-drop (n / 4) (n + n / 4) l)
-      ∙ simp append-assoc
+    pub third-holds : lent «V» n (after-u l n a b) ≡ residuals «V» n l
+    third-holds =
+        lent-is «V» n (after-u l n a b)
+        ∙ ap (residuals «V» n) twice
+        ∙ ap (take (n / 4)) (drop-at (a ++ b) (drop (n + n / 4) l) (n + n / 4) joined-length)
+
+    pub three-put : (c : List ℤ) → after-v l n a b c ≡ (a ++ (b ++ c)) ++ drop (n + n / 4 + n / 4) l
+    three-put c =
+        (λ i. putMid (n + n / 4) (v-long n (n / 4) i) (twice i) c)
+        ∙ put-at (a ++ b) (drop (n + n / 4) l) c (n + n / 4) (n / 4) joined-length
+        ∙ ap (λ (x : List ℤ). (a ++ b) ++ (c ++ x)) (drop-drop (n / 4) (n + n / 4) l)
+        ∙ simp append-assoc
 
 -- a list in three parts
 in-three : (l : List ℤ) (n : ℕ) → length l ≡ n + n / 4 + n / 4
@@ -75,7 +76,11 @@ written-back room l a b c n k ea eb ec =
     let a-is : a ≡ residuals Y n room = ea ∙ lent-is Y n room in
     let b-is : b ≡ residuals U n room = eb ∙ lent-is U n room in
     let c-is : c ≡ residuals «V» n room = ec ∙ lent-is «V» n room in
-    three-put l a b n (ap length a-is ∙ simp length-take (omega arith))
+    three-put l a n (ap length a-is ∙ simp length-take (omega arith)) b
     (ap length b-is ∙ simp (length-take, length-drop) (omega arith)) c
     ∙ (λ i. (a-is i ++ (b-is i ++ c-is i)) ++ drop (n + n / 4 + n / 4) l)
     ∙ ap (λ (x : List ℤ). x ++ drop (n + n / 4 + n / 4) l) (in-three room n k)
+
+-- a part from place 0 on is a front
+pub front : (b l : List ℤ) (v : ℕ) → l ≡ take (v - 0) b → l ≡ take v b
+front b l v e = e ∙ ap (λ (k : ℕ). take k b) (y-long v)

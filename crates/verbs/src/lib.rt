@@ -9,6 +9,8 @@ pub enum Verb {
     SubBlock,
     ScaleBack,
     Inverse,
+    Guarded,
+    Measure,
 }
 
 pub enum Named {
@@ -33,6 +35,12 @@ pub fn read_verb(word: &[u8]) -> Named
     }
     if same(word, b"inverse") {
         return Named::Is(Verb::Inverse);
+    }
+    if same(word, b"guarded") {
+        return Named::Is(Verb::Guarded);
+    }
+    if same(word, b"measure") {
+        return Named::Is(Verb::Measure);
     }
     Named::Malformed
 }

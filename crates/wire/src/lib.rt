@@ -1,10 +1,14 @@
 // The calls over flat numbers, as they cross to C and Rust: whole numbers, f64s, slices and arrays go in. A result is 0
 // or a refusal's number, and what else a call answers is written into an array. Each is the call that `surface` says
 // the numbers ask for.
+use guarded::guarded_sub_block;
 use quantise::quant_nnz;
 use refusals::Component;
 use subblock::sub_block_tq;
 use surface::coding_of;
+use surface::heights_of;
+use surface::put_guarded;
+use surface::put_measure;
 use surface::put_quant;
 use surface::put_three;
 use surface::request_of;
@@ -12,8 +16,9 @@ use surface::result_of;
 use transform::trans;
 ghost use Rattle.transform.specs.Call.{called};
 ghost use Rattle.decoding.specs.Call.{levelsLent, coefficientsLent};
-ghost use Rattle.surface.specs.Surface.{TransLeft, ScaleLeft, InverseLeft};
-ghost use Rattle.surface.specs.Surface.{quantAsked, QuantLeft, threeAsked, ThreeLeft};
+ghost use Rattle.heights.specs.Call.{lent};
+ghost use Rattle.surface.specs.Surface.{TransLeft, ScaleLeft, InverseLeft, MeasureLeft};
+ghost use Rattle.surface.specs.Surface.{quantAsked, QuantLeft, threeAsked, ThreeLeft, guardedAsked, GuardedLeft};
 
 pub fn transform(block: &mut [i16], log2_w: usize, log2_h: usize) -> u32
     ensures { λ r. ⌜ TransLeft (called (now (block .entry)) «log2_w» «log2_h») r (now (block .exit)) ⌝ }
@@ -67,4 +72,37 @@ pub fn inverse(block: &mut [i16], log2_w: usize, log2_h: usize) -> u32
     ensures { λ r. ⌜ InverseLeft (coefficientsLent (now (block .entry)) «log2_w» «log2_h») r (now (block .exit)) ⌝ }
 {
     result_of(residuals::inverse(block, log2_w, log2_h))
+}
+
+pub fn guarded_block(
+    buffer: &mut [i16],
+    log2_luma: usize,
+    qp: &[u32; 3],
+    lambda: &[f64; 3],
+    run: u32,
+    flags: u32,
+    costs: &[u64; 28],
+    heights: &[u32; 6],
+    answer: &mut [u64; 13],
+) -> u32
+    ensures { λ r. ⌜ GuardedLeft
+        (guardedAsked (now (buffer .entry)) «log2_luma» (now (qp .entry)) (now (lambda .entry)) run flags
+        (now (costs .entry)) (now (heights .entry))) r (now (answer .exit)) (now (buffer .exit)) ⌝ }
+{
+    let q = request_of(log2_luma, qp, lambda, run, flags);
+    let h = heights_of(heights);
+    put_guarded(guarded_sub_block(buffer, costs, q, h), answer)
+}
+
+pub fn measure(
+    residuals: &[i16],
+    levels: &[i16],
+    log2_side: usize,
+    qp: u32,
+    answer: &mut [u64; 2],
+) -> u32
+    ensures { λ r. ⌜ MeasureLeft (lent (now (residuals .entry)) (now (levels .entry)) «log2_side» qp)
+        r (now (answer .exit)) ⌝ }
+{
+    put_measure(measure::measure(residuals, levels, log2_side, qp), answer)
 }

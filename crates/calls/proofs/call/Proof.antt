@@ -1,9 +1,10 @@
 -- `calls::call` meets its contract: the call of each verb, by the fields in front.
 -- Assumes nothing.
 use borrow.Author.Needs.{needs}
-use Rattle.verbs.specs.declared.Verb.the-variants.{Transform, Quantise, SubBlock, ScaleBack, Inverse}
+use Rattle.verbs.specs.declared.Verb.the-variants.{Transform, Quantise, SubBlock, ScaleBack, Inverse, Guarded, Measure}
 use Rattle.calls.specs.Calls.{answered}
 use Rattle.calls.proofs.Fields.{by-verb, quantise-short, sub-block-short, scale-back-short}
+use Rattle.calls.proofs.Fields.{guarded-short, measure-short}
 use Rattle.calls.proofs.call.Statement.{statement}
 use Rattle.calls.proofs.call.Tie as tie
 
@@ -51,6 +52,28 @@ enum-told-5 c = search needs
 call-inverse-requires : tie.Need-call-inverse-requires
 call-inverse-requires c κs = search needs
 
+enum-told-6 : tie.Need-enum-told-6
+enum-told-6 c = search needs
+
+call-guarded-requires : tie.Need-call-guarded-requires
+call-guarded-requires c κs =
+    let told = c .before in
+    let start = told .before .before .before in
+    let args = start .args in
+    let short = guarded-short (args .verb) (args .fields .now) (told .enum-told6 .given .1) (start .pre .0) in
+    (short .0, short .1, short .2, short .3, short .4, short .5, start .pre .1)
+
+enum-told-7 : tie.Need-enum-told-7
+enum-told-7 c = search needs
+
+call-measure-requires : tie.Need-call-measure-requires
+call-measure-requires c κs =
+    let told = c .before in
+    let start = told .before .before .before in
+    let args = start .args in
+    let short = measure-short (args .verb) (args .fields .now) (told .enum-told7 .given .1) (start .pre .0) in
+    (short .0, short .1, start .pre .1)
+
 same-length : tie.Need-same-length
 same-length c = search needs
 
@@ -96,6 +119,22 @@ returns-5 c =
     let made = c .before in
     by-verb _ _ Inverse (made .before .before .enum-told5 .given .1) _ _ _ _ (made .call-inverse .ensures)
 
+same-length-6 : tie.Need-same-length-6
+same-length-6 c = search needs
+
+returns-6 : tie.Need-returns-6
+unfolding answered
+returns-6 c =
+    let made = c .before in
+    by-verb _ _ Guarded (made .before .before .enum-told6 .given .1) _ _ _ _ (made .call-guarded .ensures)
+
+same-length-7 : tie.Need-same-length-7
+same-length-7 c = search needs
+
+returns-7 : tie.Need-returns-7
+unfolding answered
+returns-7 c = by-verb _ _ Measure (c .before .before .enum-told7 .given .1) _ _ _ _ (c .call-measure .ensures)
+
 pub call-spec : {M : Type 1} → statement M
 call-spec =
     tie.close
@@ -110,6 +149,10 @@ call-spec =
     call-scale-back-requires
     enum-told-5
     call-inverse-requires
+    enum-told-6
+    call-guarded-requires
+    enum-told-7
+    call-measure-requires
     same-length
     returns
     same-length-2
@@ -119,4 +162,8 @@ call-spec =
     same-length-4
     returns-4
     same-length-5
-    returns-5)
+    returns-5
+    same-length-6
+    returns-6
+    same-length-7
+    returns-7)

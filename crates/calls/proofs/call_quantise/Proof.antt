@@ -1,7 +1,7 @@
 -- `calls::call_quantise` meets its contract: what the export left, shown.
 -- Assumes nothing.
 use mathlib.Core.Path.{ap, _∙_}
-use mathlib.Core.List.{List, [], _∷_}
+use mathlib.Core.List.{List, _∷_}
 use Prim.Native.Nat.{ℕ}
 use native.Mathlib.Omega.{arith}
 use borrow.Author.Needs.{needs}
@@ -10,6 +10,7 @@ use lib.ListN.{getD}
 use Rattle.coding.specs.Block.{Quant}
 use Rattle.surface.specs.Surface.{quantAsked}
 use Rattle.calls.specs.Calls.{componentBy, lambdaBy, quantText}
+use Rattle.calls.specs.Inner.Replied.{zeros}
 use Rattle.calls.proofs.Shown.{replied, quant-shown}
 use Rattle.calls.proofs.call_quantise.Statement.{statement}
 use Rattle.calls.proofs.call_quantise.Tie as tie
@@ -73,7 +74,7 @@ returns c =
     let costs = copied .costs-from in
     let call = made .quantise-by in
     let w = call .last .1 .1 .1 .1 .1 .1 .1 .0 in
-    replied (call .result) (getD w 0 0) 2 (getD w 1 0 ∷ getD w 2 0 ∷ 0 ∷ 0 ∷ 0 ∷ 0 ∷ []) _ (call .last .1 .0) _ _
+    replied (call .result) (getD w 0 0) 2 (getD w 1 0 ∷ getD w 2 0 ∷ zeros 10) _ (call .last .1 .0) _ _
     (c .reply-by .ensures) (omega arith) (call .kept .1 .0)
     (quant-shown (asked (scaled .double-of .result) (costs .result)) _ _ _ (call .ensures)
     ∙ ap (λ (lambda : Float). quantText (asked lambda (costs .result))) (scaled .double-of .ensures)

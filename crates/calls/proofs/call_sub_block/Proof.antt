@@ -1,7 +1,7 @@
 -- `calls::call_sub_block` meets its contract: what the export left, shown.
 -- Assumes nothing.
 use mathlib.Core.Path.{ap, _∙_}
-use mathlib.Core.List.{List, [], _∷_}
+use mathlib.Core.List.{List, _∷_}
 use Prim.Native.Nat.{ℕ}
 use native.Mathlib.Omega.{arith}
 use borrow.Author.Needs.{needs}
@@ -10,6 +10,7 @@ use lib.ListN.{getD}
 use Rattle.components.specs.Call.{SubBlock}
 use Rattle.surface.specs.Surface.{threeAsked}
 use Rattle.calls.specs.Calls.{qpsBy, lambdasBy, threeText}
+use Rattle.calls.specs.Inner.Replied.{zeros}
 use Rattle.calls.proofs.Shown.{replied, three-shown}
 use Rattle.calls.proofs.call_sub_block.Statement.{statement}
 use Rattle.calls.proofs.call_sub_block.Tie as tie
@@ -85,7 +86,7 @@ returns c =
     let call = made .galemosu-sub-block in
     let w = call .last .1 .1 .1 .1 .1 .1 .1 .0 in
     replied (call .result) (getD w 0 0) 6
-    (getD w 1 0 ∷ getD w 4 0 ∷ getD w 2 0 ∷ getD w 5 0 ∷ getD w 3 0 ∷ getD w 6 0 ∷ []) _ (call .last .0) _ _
+    (getD w 1 0 ∷ getD w 4 0 ∷ getD w 2 0 ∷ getD w 5 0 ∷ getD w 3 0 ∷ getD w 6 0 ∷ zeros 6) _ (call .last .0) _ _
     (c .reply-by .ensures) (omega arith) (call .kept .0)
     (three-shown (asked (stepped .qps-of .result) (lambda .result) (costs .result)) _ _ _ (call .ensures)
     ∙ ap (λ (qp : List ℕ). threeText (asked qp (lambda .result) (costs .result))) (stepped .qps-of .ensures)

@@ -12,11 +12,11 @@ use Rattle.label.proofs.show_blocks.Statement.{statement}
 use Rattle.label.proofs.show_blocks.Tie as tie
 
 abbrev Inv-loop : tie.InvT-loop
-Inv-loop camera kept₀ size qp millionths n t₀ b₀ kept t b =
+Inv-loop camera kept₀ size asked n t₀ b₀ kept t b =
     (b ≤ n) × (n ≤ 1024) × (length kept ≡ length kept₀) × Most (64 * b) t
 
 abbrev μ-loop : tie.MeasureT-loop
-μ-loop camera kept₀ size qp millionths n t₀ b₀ kept t b = n - b
+μ-loop camera kept₀ size asked n t₀ b₀ kept t b = n - b
 
 fewer : (n m : ℕ) (t : Tally) → n ≤ m → Most n t → Most m t
 fewer n m t h f =

@@ -25,11 +25,11 @@ abbrev parted : tie.After-put-samples-arg → tie.After-put-word
 parted c = c .before .before .before
 
 -- ---- how many numbers, and how far each part reaches
-six : (s : tie.Start) → length (s .args .reply .numbers) ≡ 6
-six s = let ok = s .good in search needs
+twelve : (s : tie.Start) → length (s .args .reply .numbers) ≡ 12
+twelve s = let ok = s .good in search needs
 
 within : (s : tie.Start) → s .args .reply .count ≤ length (s .args .reply .numbers)
-within s = omega (arith, s .pre .0, six s)
+within s = omega (arith, s .pre .0, twelve s)
 
 taken : (s : tie.Start) → length (take (s .args .reply .count) (s .args .reply .numbers)) ≡ s .args .reply .count
 taken s = length-take-le _ _ (within s)
@@ -43,14 +43,14 @@ verdict-reach c =
     let p = c .put-verdict .ensures in
     (omega (arith, p .next, p .few), c .put-verdict .kept .0 ∙ start c .pre .2)
 
-numbers-reach : (c : tie.After-put-numbers) → Reach 134 (c .put-numbers .last .0) (c .put-numbers .result)
+numbers-reach : (c : tie.After-put-numbers) → Reach 260 (c .put-numbers .last .0) (c .put-numbers .result)
 numbers-reach c =
     let before = told (c .before .before) in
     let q = verdict-reach before in
     let p = c .put-numbers .ensures in
     (omega (arith, p .next, p .few, q .0, taken (start before), start before .pre .0), c .put-numbers .kept .0 ∙ q .1)
 
-colon-reach : (c : tie.After-put-word) → Reach 136 (c .put-word .last .0) (c .put-word .result)
+colon-reach : (c : tie.After-put-word) → Reach 262 (c .put-word .last .0) (c .put-word .result)
 colon-reach c =
     let q = numbers-reach (counted (c .before .before)) in
     let p = c .put-word .ensures in

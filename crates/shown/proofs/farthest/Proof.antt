@@ -2,7 +2,7 @@
 -- Assumes nothing.
 use mathlib.Core.Path.{_≡_, subst}
 use Prim.Native.Nat.{ℕ, _-_, _≤_}
-use Rattle.shown.specs.Shown.{Farthest}
+use Rattle.shown.specs.Shown.{apartIn, Farthest}
 use Rattle.shown.proofs.Far.{first, further}
 use borrow.Author.Needs.{needs}
 use native.Mathlib.Omega.{arith}
@@ -11,7 +11,7 @@ use Rattle.shown.proofs.farthest.Tie as tie
 
 abbrev Inv-loop : tie.InvT-loop
 Inv-loop camera shown n best₀ p₀ best p =
-    (1 ≤ p) × (p ≤ n) × Farthest camera shown p best
+    (1 ≤ p) × (p ≤ n) × Farthest (apartIn camera shown) p best
 
 abbrev μ-loop : tie.MeasureT-loop
 μ-loop camera shown n best₀ p₀ best p = n - p
@@ -28,7 +28,7 @@ apart-requires c κs = search needs
 loop-holds : tie.Need-loop-holds Inv-loop μ-loop
 loop-holds c =
     let a = c .before .before .before .before .before .args in
-    (omega arith, omega arith, first (a .camera .now) (a .shown .now) _ (c .apart .ensures))
+    (omega arith, omega arith, first (apartIn (a .camera .now) (a .shown .now)) _ (c .apart .ensures))
 
 mul-apart : tie.Need-mul-apart Inv-loop μ-loop
 mul-apart c = search needs
@@ -63,7 +63,7 @@ loop-again c =
       omega arith,
       omega arith,
       rw (c .farther .ensures)
-          (further (a .camera .now) (a .shown .now) (l .best) (l .p) _ (met .apart2 .ensures) (l .inv .2)),
+          (further (apartIn (a .camera .now) (a .shown .now)) (l .best) (l .p) _ (met .apart2 .ensures) (l .inv .2)),
     )
 
 returns : tie.Need-returns Inv-loop μ-loop
@@ -71,7 +71,7 @@ returns c =
     let l = c .before .loop in
     let a = c .before .before .before .before .before .before .before .args in
     let e : l .p ≡ a .n = omega arith in
-    subst (λ (k : ℕ). Farthest (a .camera .now) (a .shown .now) k (l .best)) e (l .inv .2)
+    subst (λ (k : ℕ). Farthest (apartIn (a .camera .now) (a .shown .now)) k (l .best)) e (l .inv .2)
 
 pub farthest-spec : {M : Type 1} → statement M
 farthest-spec =

@@ -18,7 +18,7 @@ use Rattle.shown.proofs.residuals.Tie as tie
 
 abbrev Inv-loop : tie.InvT-loop
 Inv-loop seen block₀ i₀ block i =
-    (i ≤ 64) × (64 ≡ length block) × Filled (pos 0) block (λ j. residualOf (getD seen j 0)) i
+    (i ≤ 64) × (96 ≡ length block) × Filled (pos 0) block (λ j. residualOf (getD seen j 0)) i
 
 abbrev μ-loop : tie.MeasureT-loop
 μ-loop seen block₀ i₀ block i = 64 - i

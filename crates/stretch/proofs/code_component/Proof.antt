@@ -8,6 +8,7 @@ use native.Mathlib.Omega.{arith}
 use borrow.Author.Needs.{needs}
 use Rattle.refusals.specs.Faults.{passed, verdictOutcome}
 use Rattle.price.specs.Costs.{costsOf}
+use Rattle.coding.specs.declared.Coding.{Coding}
 use Rattle.components.specs.Call.{bit}
 use Rattle.stretch.specs.Inner.Part.{partAnswer, partLeft}
 use Rattle.stretch.proofs.OneComponent.{trans-passes, part-coded}
@@ -18,11 +19,11 @@ use Rattle.stretch.proofs.code_component.Tie as tie
 abbrev transformed : tie.After-quant-nnz → tie.After-trans
 transformed c = let accepted = c .before .before in accepted .before .before .before
 
-abbrev settled : tie.After-trans → tie.After-settings-of
+abbrev settled : tie.After-trans → tie.After-coding-of
 settled c = c .before .before
 
 abbrev begun : tie.After-trans → tie.Then1
-begun c = settled c .before .before
+begun c = settled c .before
 
 abbrev start : tie.Then1 → tie.Start
 start c = c .before .before
@@ -33,11 +34,8 @@ is-run c = sym (c .before .is-run .ensures) ∙ c .if1 .taken
 is-run-requires : tie.Need-is-run-requires
 is-run-requires c κs = search needs
 
-log2-of-requires : tie.Need-log2-of-requires
-log2-of-requires c κs = search needs
-
-settings-of-requires : tie.Need-settings-of-requires
-settings-of-requires c κs = search needs
+coding-of-requires : tie.Need-coding-of-requires
+coding-of-requires c κs = search needs
 
 trans-requires : tie.Need-trans-requires
 trans-requires c κs = search needs
@@ -58,13 +56,13 @@ returns : tie.Need-returns
 returns c =
     let refused = c .before in
     let t = refused .before .before .before in
-    let log2 = settled t .before .log2-of in
+    let asked = settled t .coding-of in
     let s = start (begun t) in
     let a = s .args in
     let e : verdictOutcome (t .trans .result) ≡ passed =
     t .trans .ensures .0
     ∙ trans-passes (a .component) (costsOf (a .costs .now)) (a .q) (a .part .now) (s .pre) (is-run (begun t))
-    (log2 .result) (log2 .ensures) in
+    (asked .result .log2) (ap (λ (x : Coding). x .log2) (asked .ensures)) in
     let g = sym (ap verdictOutcome (refused .t .given .1)) ∙ e in
     let z : _≡_ {A = ℕ} 0 1 = cc in
     absurd (let no : ⊥ = omega arith in no)
@@ -75,13 +73,11 @@ same-length-2 c = search needs
 returns-2 : tie.Need-returns-2
 returns-2 c =
     let t = transformed (c .before) in
-    let settings = settled t .settings-of in
-    let log2 = settled t .before .log2-of in
     let s = start (begun t) in
     let a = s .args in
     let coded = c .before .quant-nnz in
-    part-coded (a .component) (costsOf (a .costs .now)) (a .q) (a .part .now) (s .pre) (is-run (begun t)) _ _ refl refl
-    refl refl (log2 .ensures) (settings .ensures) (t .trans .ensures .1) _ _ (coded .ensures .0) (coded .ensures .1)
+    part-coded (a .component) (costsOf (a .costs .now)) (a .q) (a .part .now) (s .pre) (is-run (begun t)) _ _
+    (settled t .coding-of .ensures) (t .trans .ensures .1) _ _ (coded .ensures .0) (coded .ensures .1)
 
 returns-3 : tie.Need-returns-3
 unfolding partAnswer partLeft
@@ -95,8 +91,7 @@ code-component-spec =
     tie.close
     (tie.spec
     is-run-requires
-    log2-of-requires
-    settings-of-requires
+    coding-of-requires
     trans-requires
     enum-known-t
     enum-told

@@ -8,8 +8,9 @@ use borrow.Author.Needs.{needs}
 use lib.IntN.{ℤ}
 use Rattle.price.specs.Costs.{costsOf}
 use Rattle.turns.specs.Inner.Parts.{AllReady}
-use Rattle.subblock.proofs.Passed.{room-of, all-ready}
-use Rattle.subblock.proofs.Finished.{front, finished-answer, finished-coded, finished-refused}
+use Rattle.turns.proofs.Passed.{room-of, all-ready}
+use Rattle.turns.proofs.ThreeParts.{front}
+use Rattle.subblock.proofs.Finished.{finished-answer, finished-coded, finished-refused}
 use Rattle.subblock.proofs.code_in.Statement.{statement}
 use Rattle.subblock.proofs.code_in.Tie as tie
 
@@ -92,12 +93,10 @@ returns c =
     let n = s .args .n in
     let e = f .copy .ensures in
     let p = r .code-parts .ensures in
-    let g = w .enum-told .given in (
-      finished-answer b t q n (s .pre .sizes) (s .pre .passed) _ _ _ e p,
+    let coded-all = w .enum-told .given .1 in (
+      finished-answer b t q n (s .pre .sizes) (s .pre .passed) _ _ (r .code-parts .result) e p,
       c .before .write-back .ensures
-          ∙ sym (finished-coded b t q n (s .pre .sizes) (s .pre .passed) _ _ _ e p (g .0 .0) (g .0 .1 .0)
-          (g .0 .1 .1 .0)
-          (g .1)),
+          ∙ sym (finished-coded b t q n (s .pre .sizes) (s .pre .passed) _ _ (r .code-parts .result) e p coded-all),
     )
 
 same-length-3 : tie.Need-same-length-3
@@ -117,9 +116,9 @@ returns-2 c =
     let n = s .args .n in
     let e = f .copy .ensures in
     let p = r .code-parts .ensures in
-    let g = c .enum-told2 .given in (
-      finished-answer b t q n (s .pre .sizes) (s .pre .passed) _ _ _ e p,
-      sym (finished-refused b t q n (s .pre .sizes) (s .pre .passed) _ _ _ e p (g .0 .0) (g .0 .1 .0) (g .1)),
+    let one-refused = c .enum-told2 .given .1 in (
+      finished-answer b t q n (s .pre .sizes) (s .pre .passed) _ _ (r .code-parts .result) e p,
+      sym (finished-refused b t q n (s .pre .sizes) (s .pre .passed) _ _ (r .code-parts .result) e p one-refused),
     )
 
 pub code-in-spec : {M : Type 1} → statement M

@@ -2,7 +2,7 @@
 -- Assumes nothing.
 use borrow.Author.Needs.{needs}
 use Rattle.price.specs.Costs.{costsOf}
-use Rattle.subblock.proofs.Passed.{log2-fine}
+use Rattle.turns.proofs.Passed.{log2-fine}
 use Rattle.subblock.proofs.code_tested.Statement.{statement}
 use Rattle.subblock.proofs.code_tested.Tie as tie
 

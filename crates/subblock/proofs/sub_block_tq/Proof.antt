@@ -7,7 +7,7 @@ use Rattle.price.specs.Costs.{costsOf}
 use Rattle.components.specs.Call.{SubBlock, requested}
 use Rattle.components.specs.Inner.Groups.{settingsFaults}
 use Rattle.admission.specs.Inner.Tested.{verdictOf}
-use Rattle.subblock.proofs.Passed.{log2-fine}
+use Rattle.turns.proofs.Passed.{log2-fine}
 use Rattle.subblock.proofs.Finished.{settings-refused, buffer-refused}
 use borrow.Author.Needs.{needs}
 use Rattle.subblock.proofs.sub_block_tq.Statement.{statement}

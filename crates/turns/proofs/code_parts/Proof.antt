@@ -2,14 +2,21 @@
 -- on, and what three coded components leave stands in the room in a row.
 -- Assumes nothing.
 use mathlib.Core.Path.{_≡_, refl, ap, _∙_}
+use mathlib.Core.List.{List}
 use native.Mathlib.Omega.{arith}
 use borrow.Author.Needs.{needs}
+use lib.IntN.{ℤ}
+use Rattle.refusals.specs.declared.Component.{Component}
 use Rattle.refusals.specs.declared.Component.the-variants.{Y, U, «V»}
+use Rattle.refusals.specs.Faults.{Outcome}
 use Rattle.price.specs.Costs.{costsOf}
+use Rattle.coding.specs.declared.Coded.{Coded}
 use Rattle.coding.specs.Call as quant
+use Rattle.admission.specs.Inner.Tested.{residuals}
 use Rattle.admission.proofs.Stretches.{lent-is}
-use Rattle.stretch.specs.Inner.Part.{partAnswer}
-use Rattle.turns.proofs.Turns.{said, answerOf, refused-parted, coded-parted, first-ready, second-is}
+use Rattle.stretch.specs.Inner.Part.{partAnswer, partLeft}
+use Rattle.turns.specs.Inner.Parts.{shares, answerIn, leftIn}
+use Rattle.turns.proofs.Turns.{said, refused-parted, coded-parted, first-ready, second-is}
 use Rattle.turns.proofs.Turns.{second-ready, third-is, third-ready, all-left}
 use Rattle.turns.proofs.code_parts.Statement.{statement}
 use Rattle.turns.proofs.code_parts.Tie as tie
@@ -36,38 +43,59 @@ start-u c = start (y-before-u c)
 abbrev start-v : tie.After-code-component3 → tie.Start
 start-v c = start-u (u-before-v c)
 
--- ---- what each was given is its residuals, and what it answered is what is said of them
-y-answers : (c : tie.After-code-component)
-    → (let a = start c .args in
-    quant.quantOutcome (c .code-component .result) ≡ answerOf (costsOf (a .costs .now)) (a .q) (a .n) (a .room .now) Y)
-y-answers c =
-    let a = start c .args in
-    c .code-component .ensures .0 ∙ ap (partAnswer Y (costsOf (a .costs .now)) (a .q)) (lent-is Y (a .n) (a .room .now))
+-- ---- what Y and U left
+abbrev y-left : tie.After-code-component → List ℤ
+y-left c = c .code-component .last .0
 
-u-answers : (c : tie.After-code-component2)
-    → (let a = start-u c .args in
-    quant.quantOutcome (c .code-component2 .result) ≡ answerOf (costsOf (a .costs .now)) (a .q) (a .n) (a .room .now) U)
-u-answers c =
+abbrev u-left : tie.After-code-component2 → List ℤ
+u-left c = c .code-component2 .last .0
+
+-- ---- what each was given is its residuals: what it answered and left is what is said of them
+abbrev answers : tie.Start → Component → Outcome Coded
+answers s = answerIn (costsOf (s .args .costs .now)) (s .args .q) (s .args .n) (s .args .room .now)
+
+abbrev leaves : tie.Start → Component → List ℤ
+leaves s = leftIn (costsOf (s .args .costs .now)) (s .args .q) (s .args .n) (s .args .room .now)
+
+part-said : (s : tie.Start) (k : Component) {r : List ℤ} {a : Outcome Coded} {l : List ℤ}
+    → r ≡ residuals k (s .args .n) (s .args .room .now)
+    → (a ≡ partAnswer k (costsOf (s .args .costs .now)) (s .args .q) r)
+    × (l ≡ partLeft k (costsOf (s .args .costs .now)) (s .args .q) r)
+    → (a ≡ answers s k) × (l ≡ leaves s k)
+part-said s k e h = (
+  h .0 ∙ ap (partAnswer k (costsOf (s .args .costs .now)) (s .args .q)) e,
+  h .1 ∙ ap (partLeft k (costsOf (s .args .costs .now)) (s .args .q)) e,
+)
+
+y-said : (c : tie.After-code-component)
+    → (quant.quantOutcome (c .code-component .result) ≡ answers (start c) Y)
+    × (y-left c ≡ leaves (start c) Y)
+y-said c =
+    let s = start c in
+    part-said s Y (lent-is Y (s .args .n) (s .args .room .now)) (c .code-component .ensures)
+
+u-said : (c : tie.After-code-component2)
+    → (quant.quantOutcome (c .code-component2 .result) ≡ answers (start-u c) U)
+    × (u-left c ≡ leaves (start-u c) U)
+u-said c =
     let s = start-u c in
     let a = s .args in
-    c .code-component2 .ensures .0
-    ∙ ap (partAnswer U (costsOf (a .costs .now)) (a .q))
-    (second-is (costsOf (a .costs .now)) (a .q) (a .n) (a .room .now) (s .pre) _
-    (y-before-u c .code-component .ensures .1))
+    part-said s U
+    (second-is (costsOf (a .costs .now)) (a .q) (a .n) (a .room .now) (s .pre)
+    (y-left (y-before-u c)) (y-before-u c .code-component .kept .0))
+    (c .code-component2 .ensures)
 
-v-answers : (c : tie.After-code-component3)
-    → (let a = start-v c .args in
-    quant.quantOutcome (c .code-component3 .result) ≡ answerOf (costsOf (a .costs .now)) (a .q) (a .n)
-    (a .room .now) «V»)
-v-answers c =
+v-said : (c : tie.After-code-component3)
+    → (quant.quantOutcome (c .code-component3 .result) ≡ answers (start-v c) «V»)
+    × (c .code-component3 .last .0 ≡ leaves (start-v c) «V»)
+v-said c =
     let s = start-v c in
     let a = s .args in
     let u = u-before-v c in
-    c .code-component3 .ensures .0
-    ∙ ap (partAnswer «V» (costsOf (a .costs .now)) (a .q))
-    (third-is (costsOf (a .costs .now)) (a .q) (a .n) (a .room .now) (s .pre) _
-    (y-before-u u .code-component .ensures .1) _
-    (u .code-component2 .ensures .1))
+    part-said s «V»
+    (third-is (costsOf (a .costs .now)) (a .q) (a .n) (a .room .now) (s .pre)
+    (y-left (y-before-u u)) (y-before-u u .code-component .kept .0) (u-left u) (u .code-component2 .kept .0))
+    (c .code-component3 .ensures)
 
 -- ---- Y
 add-u-end : tie.Need-add-u-end
@@ -102,10 +130,9 @@ returns : tie.Need-returns
 returns c =
     let answer = c .before in
     let y = answer .before .before .before in
-    let a = start y .args in
-    refused-parted (costsOf (a .costs .now)) (a .q) (a .n) (a .room .now) _ _ _ _ _ _ (said (y-answers y)
-    (answer .answer-y2 .given .1)) refl
-    refl refl
+    let s = start y in
+    refused-parted shares (answers s) (leaves s) _ _ _ _ _ _
+    (said quant.quantOutcome (y-said y .0) (answer .answer-y2 .given .1)) refl refl refl
 
 -- ---- U
 mul-code-component : tie.Need-mul-code-component
@@ -124,8 +151,8 @@ code-component-requires-2 : tie.Need-code-component-requires-2
 code-component-requires-2 c κs =
     let y = y-done (c .before) in
     let s = start y in
-    second-ready (costsOf (s .args .costs .now)) (s .args .q) (s .args .n) (s .args .room .now) (s .pre) _
-    (y .code-component .ensures .1)
+    second-ready (costsOf (s .args .costs .now)) (s .args .q) (s .args .n) (s .args .room .now) (s .pre)
+    (y-left y) (y .code-component .kept .0)
 
 enum-known-answer-u : tie.Need-enum-known-answer-u
 enum-known-answer-u c = search needs
@@ -140,10 +167,10 @@ returns-2 : tie.Need-returns-2
 returns-2 c =
     let answer = c .before in
     let u = answer .before .before .before in
-    let a = start-u u .args in
-    refused-parted (costsOf (a .costs .now)) (a .q) (a .n) (a .room .now) _ _ _ _ _ _
-    (said (y-answers (y-before-u u)) (u .before .before .before .answer-y .given .1))
-    (said (u-answers u) (answer .answer-u2 .given .1)) refl refl
+    let s = start-u u in
+    refused-parted shares (answers s) (leaves s) _ _ _ _ _ _
+    (said quant.quantOutcome (y-said (y-before-u u) .0) (u .before .before .before .answer-y .given .1))
+    (said quant.quantOutcome (u-said u .0) (answer .answer-u2 .given .1)) refl refl
 
 -- ---- V
 mul-code-component-2 : tie.Need-mul-code-component-2
@@ -162,9 +189,8 @@ code-component-requires-3 : tie.Need-code-component-requires-3
 code-component-requires-3 c κs =
     let u = u-done (c .before) in
     let s = start-u u in
-    third-ready (costsOf (s .args .costs .now)) (s .args .q) (s .args .n) (s .args .room .now) (s .pre) _
-    (y-before-u u .code-component .ensures .1) _
-    (u .code-component2 .ensures .1)
+    third-ready (costsOf (s .args .costs .now)) (s .args .q) (s .args .n) (s .args .room .now) (s .pre)
+    (y-left (y-before-u u)) (y-before-u u .code-component .kept .0) (u-left u) (u .code-component2 .kept .0)
 
 enum-known-answer-v : tie.Need-enum-known-answer-v
 enum-known-answer-v c = search needs
@@ -183,13 +209,13 @@ returns-3 c =
     let y = y-before-u u in
     let s = start y in
     let a = s .args in
-    coded-parted (costsOf (a .costs .now)) (a .q) (a .n) (a .room .now) _ _ _ _
-    (said (y-answers y) (u .before .before .before .answer-y .given .1))
-    (said (u-answers u) (v .before .before .before .answer-u .given .1))
-    (said (v-answers v) (answer .answer-v .given .1))
-    (all-left (costsOf (a .costs .now)) (a .q) (a .n) (a .room .now) (s .pre) _ (y .code-component .ensures .1) _
-    (u .code-component2 .ensures .1)
-    _ (v .code-component3 .ensures .1))
+    coded-parted shares (answers s) (leaves s) _ _ _ _
+    (said quant.quantOutcome (y-said y .0) (u .before .before .before .answer-y .given .1))
+    (said quant.quantOutcome (u-said u .0) (v .before .before .before .answer-u .given .1))
+    (said quant.quantOutcome (v-said v .0) (answer .answer-v .given .1))
+    _ _ _ (y-said y .1) (u-said u .1) (v-said v .1)
+    (all-left (costsOf (a .costs .now)) (a .q) (a .n) (a .room .now) (s .pre) (y-left y)
+    (y .code-component .kept .0) (u-left u) (u .code-component2 .kept .0) _)
 
 same-length-4 : tie.Need-same-length-4
 same-length-4 c = search needs
@@ -199,11 +225,11 @@ returns-4 c =
     let answer = c .before in
     let v = answer .before .before .before in
     let u = u-before-v v in
-    let a = start-v v .args in
-    refused-parted (costsOf (a .costs .now)) (a .q) (a .n) (a .room .now) _ _ _ _ _ _
-    (said (y-answers (y-before-u u)) (u .before .before .before .answer-y .given .1))
-    (said (u-answers u) (v .before .before .before .answer-u .given .1))
-    (said (v-answers v) (answer .answer-v2 .given .1)) refl
+    let s = start-v v in
+    refused-parted shares (answers s) (leaves s) _ _ _ _ _ _
+    (said quant.quantOutcome (y-said (y-before-u u) .0) (u .before .before .before .answer-y .given .1))
+    (said quant.quantOutcome (u-said u .0) (v .before .before .before .answer-u .given .1))
+    (said quant.quantOutcome (v-said v .0) (answer .answer-v2 .given .1)) refl
 
 pub code-parts-spec : {M : Type 1} → statement M
 code-parts-spec =

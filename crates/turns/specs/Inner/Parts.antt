@@ -5,12 +5,12 @@ use mathlib.Core.List.{List, _++_}
 use Prim.Native.Nat.{ℕ, _+_, _/_}
 use lib.ListN.{length}
 use lib.IntN.{ℤ}
+use Rattle.refusals.specs.declared.Component.{Component}
 use Rattle.refusals.specs.declared.Component.the-variants.{Y, U, «V»}
 use Rattle.refusals.specs.Faults.{Outcome, accepted, refused}
 use Rattle.price.specs.declared.Costs.{Costs}
 use Rattle.coding.specs.declared.Coded.{Coded}
 use Rattle.components.specs.declared.Request.{Request}
-use Rattle.components.specs.declared.SubBlockAnswer.{SubBlockAnswer}
 use Rattle.components.specs.Call as three
 use Rattle.admission.specs.Inner.Tested.{Sizes, residuals}
 use Rattle.stretch.specs.Inner.Part.{Ready, partAnswer, partLeft}
@@ -23,18 +23,24 @@ pub record AllReady (t : Costs) (q : Request) (n : ℕ) (l : List ℤ) : Type 0 
   pub v : Ready «V» t q (residuals «V» n l)
 
 -- three answers as one: the first refusal, or what was coded of each
-abbrev pub joined : (y u v : Outcome Coded) → Outcome three.Shares
-joined (refused n c) u v = refused n c
-joined (accepted a) (refused n c) v = refused n c
-joined (accepted a) (accepted b) (refused n c) = refused n c
-joined (accepted a) (accepted b) (accepted c) = three.coded a b c
+abbrev pub joined : {A S : Type 0} → (A → A → A → S) → (y u v : Outcome A) → Outcome S
+joined join (refused n c) u v = refused n c
+joined join (accepted a) (refused n c) v = refused n c
+joined join (accepted a) (accepted b) (refused n c) = refused n c
+joined join (accepted a) (accepted b) (accepted c) = accepted (join a b c)
 
--- the answer, and the room where nothing was refused
-pub record Parted (t : Costs) (q : Request) (n : ℕ) (before after : List ℤ) (r : SubBlockAnswer) : Type 0 where
-  pub answer :
-      three.subBlockOutcome r
-      ≡ joined (partAnswer Y t q (residuals Y n before)) (partAnswer U t q (residuals U n before))
-      (partAnswer «V» t q (residuals «V» n before))
-  pub left : (y u v : Coded) → three.subBlockOutcome r ≡ three.coded y u v
-      → after ≡ partLeft Y t q (residuals Y n before)
-      ++ (partLeft U t q (residuals U n before) ++ partLeft «V» t q (residuals «V» n before))
+-- by what each component answers and leaves: the answer, and the room where nothing was refused
+pub record Parted {A S : Type 0} (join : A → A → A → S) (answers : Component → Outcome A)
+    (leaves : Component → List ℤ) (after : List ℤ) (r : Outcome S) : Type 0 where
+  pub answer : r ≡ joined join (answers Y) (answers U) (answers «V»)
+  pub left : (s : S) → r ≡ accepted s → after ≡ leaves Y ++ (leaves U ++ leaves «V»)
+
+-- of the three-component call: what was coded of each, and what each answers and leaves of its residuals in the room
+abbrev pub shares : (y u v : Coded) → three.Shares
+shares y u v = record { y = y; u = u; v = v }
+
+abbrev pub answerIn : (t : Costs) (q : Request) (n : ℕ) (l : List ℤ) → Component → Outcome Coded
+answerIn t q n l k = partAnswer k t q (residuals k n l)
+
+abbrev pub leftIn : (t : Costs) (q : Request) (n : ℕ) (l : List ℤ) → Component → List ℤ
+leftIn t q n l k = partLeft k t q (residuals k n l)

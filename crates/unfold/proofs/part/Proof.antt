@@ -77,9 +77,10 @@ loop-again c =
           (toZ-ofZ {w = w16} (sfits-of (c .before .p .given))) (l .inv .3),
       filled-more (pos 0) (l .o) (λ i. at x (2 * i + 1)) (l .k) _ (omega arith)
           (toZ-ofZ {w = w16} (sfits-of (c .q .given))) (l .inv .4),
-      below-more (λ (i : ℕ). (natAbs (at x (2 * i)) ≤ 32768) × (natAbs (at x (2 * i + 1)) ≤ 32768)) (l .k) (l .inv .5)
-          (magnitude-of {w = w16} (at x (2 * l .k)) (sfits-of (c .before .p .given)),
-          magnitude-of {w = w16} (at x (2 * l .k + 1)) (sfits-of (c .q .given))),
+      below-more (λ (i : ℕ). (natAbs (at x (2 * i)) ≤ 32768) × (natAbs (at x (2 * i + 1)) ≤ 32768)) (l .k) (l .inv .5) (
+        magnitude-of {w = w16} (at x (2 * l .k)) (sfits-of (c .before .p .given)),
+        magnitude-of {w = w16} (at x (2 * l .k + 1)) (sfits-of (c .q .given)),
+      ),
     )
 
 same-length : tie.Need-same-length Inv-loop μ-loop
@@ -95,9 +96,10 @@ returns c =
       odds = λ k h. c .before .loop .inv .4 k (omega arith);
       small = λ k h.
           let l = c .before .loop in
-          let s = l .inv .5 k (omega arith) in
-          (omega (arith, ap natAbs (l .inv .3 k (omega arith)), s .0),
-          omega (arith, ap natAbs (l .inv .4 k (omega arith)), s .1));
+          let s = l .inv .5 k (omega arith) in (
+            omega (arith, ap natAbs (l .inv .3 k (omega arith)), s .0),
+            omega (arith, ap natAbs (l .inv .4 k (omega arith)), s .1),
+          );
     }
 
 pub part-spec : {M : Type 1} → statement M

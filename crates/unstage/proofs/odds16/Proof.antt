@@ -62,8 +62,7 @@ narrow-8-requires c κs = search needs
 
 loop-holds : tie.Need-loop-holds Inv-loop μ-loop
 loop-holds c =
-    let a = c .before .args in
-    (
+    let a = c .before .args in (
       omega arith,
       refl,
       lines-none (given (a .src .now)) mostOdd 8 (a .lines) (a .dst .now),
@@ -169,8 +168,7 @@ same-length c = c .before .loop .inv .1
 returns : tie.Need-returns Inv-loop μ-loop
 returns c =
     let l = c .before .loop in
-    let a = c .before .before .before .args in
-    (
+    let a = c .before .before .before .args in (
       lines-all (given (a .src .now)) mostOdd 8 (a .lines) (l .dst) (l .j) (l .inv .0) (omega arith) (l .inv .2),
       λ i k hi hk. l .inv .3 i k (omega arith) hk,
     )

@@ -5,7 +5,7 @@ use mathlib.Core.Bool.{false}
 use mathlib.Core.List.{List}
 use Prim.Native.Nat.{ℕ}
 use borrow.Author.Needs.{needs}
-use Rattle.verbs.specs.declared.Verb.the-variants.{Transform, Quantise, SubBlock, ScaleBack, Inverse}
+use Rattle.verbs.specs.declared.Verb.the-variants.{Transform, Quantise, SubBlock, ScaleBack, Inverse, Guarded}
 use Rattle.verbs.specs.Verbs.{wordOf, sameBytes, verbOf}
 use Rattle.verbs.proofs.Apart.{compared}
 use Rattle.verbs.proofs.read_verb.Statement.{statement}
@@ -25,6 +25,12 @@ second c = c .before .before .before
 abbrev third : tie.Else4 → tie.Else3
 third c = c .before .before .before
 
+abbrev fourth : tie.Else5 → tie.Else4
+fourth c = c .before .before .before
+
+abbrev fifth : tie.Else6 → tie.Else5
+fifth c = c .before .before .before
+
 -- what was said to those that were passed
 no-transform : (c : tie.Else1) → sameBytes (word c) (wordOf Transform) ≡ false
 no-transform c = let s = c .before .same .ensures in compared _ _ _ (s .0) (s .1) ∙ c .if1 .left
@@ -37,6 +43,12 @@ no-sub-block c = let s = c .before .same3 .ensures in compared _ _ _ (s .0) (s .
 
 no-scale-back : (c : tie.Else4) → sameBytes (word (first (second (third c)))) (wordOf ScaleBack) ≡ false
 no-scale-back c = let s = c .before .same4 .ensures in compared _ _ _ (s .0) (s .1) ∙ c .if4 .left
+
+no-inverse : (c : tie.Else5) → sameBytes (word (first (second (third (fourth c))))) (wordOf Inverse) ≡ false
+no-inverse c = let s = c .before .same5 .ensures in compared _ _ _ (s .0) (s .1) ∙ c .if5 .left
+
+no-guarded : (c : tie.Else6) → sameBytes (word (first (second (third (fourth (fifth c)))))) (wordOf Guarded) ≡ false
+no-guarded c = let s = c .before .same6 .ensures in compared _ _ _ (s .0) (s .1) ∙ c .if6 .left
 
 slice-aggregate-same : tie.Need-slice-aggregate-same
 slice-aggregate-same c = search needs
@@ -114,18 +126,63 @@ returns-5 c =
       c .if5 .taken,
     )
 
+slice-aggregate-same-6 : tie.Need-slice-aggregate-same-6
+slice-aggregate-same-6 c = search needs
+
+same-requires-6 : tie.Need-same-requires-6
+same-requires-6 c κs = search needs
+
 returns-6 : tie.Need-returns-6
 unfolding verbOf
 returns-6 c =
     let passed = c .before .before .before in
-    let s = c .before .same5 .ensures in
+    let s = c .before .same6 .ensures in
     rw (
-      no-transform (first (second (third passed))),
-      no-quantise (second (third passed)),
-      no-sub-block (third passed),
-      no-scale-back passed,
+      no-transform (first (second (third (fourth passed)))),
+      no-quantise (second (third (fourth passed))),
+      no-sub-block (third (fourth passed)),
+      no-scale-back (fourth passed),
+      no-inverse passed,
       compared _ _ _ (s .0) (s .1),
-      c .if5 .left,
+      c .if6 .taken,
+    )
+
+slice-aggregate-same-7 : tie.Need-slice-aggregate-same-7
+slice-aggregate-same-7 c = search needs
+
+same-requires-7 : tie.Need-same-requires-7
+same-requires-7 c κs = search needs
+
+returns-7 : tie.Need-returns-7
+unfolding verbOf
+returns-7 c =
+    let passed = c .before .before .before in
+    let s = c .before .same7 .ensures in
+    rw (
+      no-transform (first (second (third (fourth (fifth passed))))),
+      no-quantise (second (third (fourth (fifth passed)))),
+      no-sub-block (third (fourth (fifth passed))),
+      no-scale-back (fourth (fifth passed)),
+      no-inverse (fifth passed),
+      no-guarded passed,
+      compared _ _ _ (s .0) (s .1),
+      c .if7 .taken,
+    )
+
+returns-8 : tie.Need-returns-8
+unfolding verbOf
+returns-8 c =
+    let passed = c .before .before .before in
+    let s = c .before .same7 .ensures in
+    rw (
+      no-transform (first (second (third (fourth (fifth passed))))),
+      no-quantise (second (third (fourth (fifth passed)))),
+      no-sub-block (third (fourth (fifth passed))),
+      no-scale-back (fourth (fifth passed)),
+      no-inverse (fifth passed),
+      no-guarded passed,
+      compared _ _ _ (s .0) (s .1),
+      c .if7 .left,
     )
 
 pub read-verb-spec : {M : Type 1} → statement M
@@ -147,4 +204,10 @@ read-verb-spec =
     slice-aggregate-same-5
     same-requires-5
     returns-5
-    returns-6)
+    slice-aggregate-same-6
+    same-requires-6
+    returns-6
+    slice-aggregate-same-7
+    same-requires-7
+    returns-7
+    returns-8)

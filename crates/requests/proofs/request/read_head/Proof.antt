@@ -53,6 +53,24 @@ slice-aggregate-read-fields-5 c = search needs
 read-fields-requires-5 : tie.Need-read-fields-requires-5
 read-fields-requires-5 c κs = search needs
 
+enum-told-6 : tie.Need-enum-told-6
+enum-told-6 c = search needs
+
+slice-aggregate-read-fields-6 : tie.Need-slice-aggregate-read-fields-6
+slice-aggregate-read-fields-6 c = search needs
+
+read-fields-requires-6 : tie.Need-read-fields-requires-6
+read-fields-requires-6 c κs = search needs
+
+enum-told-7 : tie.Need-enum-told-7
+enum-told-7 c = search needs
+
+slice-aggregate-read-fields-7 : tie.Need-slice-aggregate-read-fields-7
+slice-aggregate-read-fields-7 c = search needs
+
+read-fields-requires-7 : tie.Need-read-fields-requires-7
+read-fields-requires-7 c κs = search needs
+
 returns : tie.Need-returns
 returns c = rw (c .before .before .before .enum-told .given .1) (c .read-fields .ensures)
 
@@ -67,6 +85,12 @@ returns-4 c = rw (c .before .before .before .enum-told4 .given .1) (c .read-fiel
 
 returns-5 : tie.Need-returns-5
 returns-5 c = rw (c .before .before .before .enum-told5 .given .1) (c .read-fields5 .ensures)
+
+returns-6 : tie.Need-returns-6
+returns-6 c = rw (c .before .before .before .enum-told6 .given .1) (c .read-fields6 .ensures)
+
+returns-7 : tie.Need-returns-7
+returns-7 c = rw (c .before .before .before .enum-told7 .given .1) (c .read-fields7 .ensures)
 
 pub read-head-spec : {M : Type 1} → statement M
 read-head-spec =
@@ -87,8 +111,16 @@ read-head-spec =
     enum-told-5
     slice-aggregate-read-fields-5
     read-fields-requires-5
+    enum-told-6
+    slice-aggregate-read-fields-6
+    read-fields-requires-6
+    enum-told-7
+    slice-aggregate-read-fields-7
+    read-fields-requires-7
     returns
     returns-2
     returns-3
     returns-4
-    returns-5)
+    returns-5
+    returns-6
+    returns-7)

@@ -1,0 +1,13 @@
+pub mod First
+pub mod Late
+pub mod Candidates
+pub mod Fits
+pub mod Accepted
+pub mod Answer
+pub mod Turns
+pub mod Promises
+pub mod Shown
+pub mod Refused
+pub mod Tall
+pub mod Coincide
+pub mod Numbers

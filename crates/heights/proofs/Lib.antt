@@ -1,0 +1,6 @@
+pub mod Exact
+pub mod Surplus
+pub mod Shown
+pub mod Tall
+pub mod Coincide
+pub mod Numbers

@@ -1,0 +1,4 @@
+pub mod Differences
+pub mod Zeros
+pub mod Front
+pub mod Faults
