@@ -87,6 +87,9 @@ fn fits(archive: &[u8]) -> Result<(), String> {
     if !has(b"galemosu_inverse") {
         return Err("has no galemosu_inverse: it is of a version before 0.4.0, without the way back".to_string());
     }
+    if !has(b"galemosu_guarded_sub_block") {
+        return Err("has no galemosu_guarded_sub_block: it is of a version before 0.5.0".to_string());
+    }
     Ok(())
 }
 

@@ -1,12 +1,17 @@
-//! Times the calls beside the Rust's release build, the second mode beside the walk, and the way back beside the way
-//! there, in one process: nanoseconds a call, the best of many rounds, with what the copy of the input takes off; and
-//! how much the second mode saves. `bench [transform|quantise|least|back]`.
+//! Times the calls beside the Rust's release build, the second mode beside the walk, the way back beside the way there,
+//! and the guarded call beside the unguarded one, in one process: nanoseconds a call, the best of many rounds, with what
+//! the copy of the input takes off; how much the second mode saves; and what heights cost in bits.
+//! `bench [transform|quantise|least|back|guarded]`.
 
 mod blocks;
+mod digits;
 mod matrix;
 mod plain;
 mod recorder;
+mod scan;
 use blocks::Random;
+use digits::{Digit, Guess};
+use galemosu::{guarded_sub_block, sub_block, Heights, Refusal, SubBlock};
 use galemosu::{inverse, quantise, scale_back, transform, Component, Costs, Mode, Quantise, Settings};
 use std::time::Instant;
 
@@ -52,13 +57,15 @@ fn best(
 }
 
 fn main() {
-    let tables: [(&str, fn()); 6] = [
+    let tables: [(&str, fn()); 8] = [
         ("transform", transforms),
         ("quantise", quantisers),
         ("least", modes),
         ("least", savings),
         ("back", inverses),
         ("back", scalings),
+        ("guarded", looks),
+        ("guarded", heights),
     ];
     let asked = std::env::args().nth(1);
     let wanted: Vec<fn()> = tables
@@ -67,7 +74,7 @@ fn main() {
         .map(|(_, table)| *table)
         .collect();
     if wanted.is_empty() {
-        eprintln!("usage: bench [transform|quantise|least|back]");
+        eprintln!("usage: bench [transform|quantise|least|back|guarded]");
         std::process::exit(2);
     }
     wanted.into_iter().for_each(|table| table());
@@ -274,4 +281,130 @@ fn scalings() {
         );
         println!("| {w} | {} | {back:.0} | {plain:.0} | {:.2} | {skip:.0} |", count / 16, plain / back);
     }
+}
+
+/// Luma alone of an intra-coded block in an intra slice; the buffer has room for the other two.
+fn luma(log2: usize, settings: Settings, costs: &Costs) -> SubBlock<'_> {
+    let mut call = SubBlock::new(log2, [settings; 3], costs);
+    (call.run, call.intra_slice, call.intra_coded) = (SubBlock::RUN_Y, true, true);
+    call
+}
+
+/// Residuals of luma with those of U and V behind them, at half the side.
+fn with_chroma(mut luma: Vec<i16>) -> Vec<i16> {
+    let n = luma.len();
+    luma.extend_from_within(..n / 4);
+    luma.extend_from_within(..n / 4);
+    luma
+}
+
+/// The guarded call where nothing is repaired, beside the unguarded one: luma alone, and all three components.
+fn looks() {
+    println!("\n| side | blocks | Y: unguarded ns | guarded ns | guarded / unguarded | Y, U, V: unguarded ns | guarded ns | guarded / unguarded |");
+    println!("|---|---|---|---|---|---|---|---|");
+    for (log2, kind, blocks) in recorder::blocks() {
+        let blocks: Vec<Vec<i16>> = blocks.into_iter().map(with_chroma).collect();
+        let settings = Settings { qp: recorder::QP, lambda: recorder::LAMBDA };
+        let mut cells = String::new();
+        for run in [SubBlock::RUN_Y, SubBlock::RUN_Y | SubBlock::RUN_U | SubBlock::RUN_V] {
+            let mut call = luma(log2, settings, &COSTS);
+            call.run = run;
+            let (free, held) = best(
+                &blocks,
+                30_000 / blocks[0].len() + 3,
+                &mut |b| {
+                    std::hint::black_box(sub_block(b, &call).unwrap());
+                },
+                &mut |b| {
+                    std::hint::black_box(guarded_sub_block(b, &call, &[Heights::ANY; 3]).unwrap());
+                },
+            );
+            cells += &format!(" {free:.0} | {held:.0} | {:.2} |", held / free);
+        }
+        println!("| {} | {kind} |{cells}", 1 << log2);
+    }
+}
+
+const ONE_BIT: Costs = Costs::equal(Costs::BIT);
+
+/// In bits, each cost being one: a 0 takes one, a level of 1 four, and one of a a + 3, with its flag; one is the
+/// block's.
+fn bits(levels: &[i16], log2: usize) -> f64 {
+    let places = scan::scan(1 << log2);
+    let size = places.iter().rposition(|p| levels[*p] != 0).map_or(0, |last| last + 1);
+    let bits = |level: i16| match level.unsigned_abs() as u32 {
+        0 => 1,
+        1 => 4,
+        a => a + 3,
+    };
+    f64::from(1 + places[..size].iter().map(|p| bits(levels[*p])).sum::<u32>())
+}
+
+/// How many blocks of digits each row of the heights is about.
+const HELD: usize = 300;
+
+/// What heights cost on digits, of luma at an encoder's lambda: bits over all blocks that are not refused, and time over
+/// all; and how many blocks are repaired and refused.
+fn heights() {
+    let both = [64, 96, 128, 192];
+    for word in ["more bits (repaired, refused)", "guarded / unguarded, in time"] {
+        println!("\n{word}:\n");
+        let head = both.map(|height| format!("heights {height}")).join(" | ");
+        println!("| guess | side | QP | {head} |");
+        println!("|---|---|---|{}", "---|".repeat(both.len()));
+        let mut random = Random::new(20_261_116);
+        for (name, guess) in [("even", Guess::Even), ("another digit", Guess::Another)] {
+            for log2 in 3..=5 {
+                let mut one = || with_chroma(Digit::drawn(&mut random, log2, guess).residuals);
+                let blocks: Vec<Vec<i16>> = (0..HELD).map(|_| one()).collect();
+                for qp in [34, 38, 42, 46] {
+                    let call = luma(log2, Settings::usual(qp), &ONE_BIT);
+                    let cells = both.map(|height| match word.starts_with("more") {
+                        true => costs_of(&blocks, &call, Heights::both(height)),
+                        false => times_of(&blocks, &call, Heights::both(height)),
+                    });
+                    println!("| {name} | {} | {qp} | {} |", 1 << log2, cells.join(" | "));
+                }
+            }
+        }
+    }
+}
+
+fn costs_of(blocks: &[Vec<i16>], call: &SubBlock, height: Heights) -> String {
+    let (mut free, mut held, mut repaired, mut refused) = (0.0, 0.0, 0, 0);
+    for block in blocks {
+        let (mut one, mut other) = (block.clone(), block.clone());
+        sub_block(&mut one, call).unwrap();
+        match guarded_sub_block(&mut other, call, &[height; 3]) {
+            Ok(_) => {
+                let n = block.len() / 3 * 2;
+                free += bits(&one[..n], call.log2_luma);
+                held += bits(&other[..n], call.log2_luma);
+                repaired += (one != other) as usize;
+            }
+            Err(why) => {
+                assert_eq!(why.refusal, Refusal::Height);
+                refused += 1;
+            }
+        }
+    }
+    let share = |n: usize| format!("{:.1} %", 100.0 * n as f64 / blocks.len() as f64);
+    if refused == blocks.len() {
+        return "all refused".to_string();
+    }
+    format!("{:.1} % ({}, {})", 100.0 * (held / free - 1.0), share(repaired), share(refused))
+}
+
+fn times_of(blocks: &[Vec<i16>], call: &SubBlock, height: Heights) -> String {
+    let (free, held) = best(
+        blocks,
+        1,
+        &mut |b| {
+            std::hint::black_box(sub_block(b, call).unwrap());
+        },
+        &mut |b| {
+            let _ = std::hint::black_box(guarded_sub_block(b, call, &[height; 3]));
+        },
+    );
+    format!("{:.2}", held / free)
 }

@@ -4,7 +4,7 @@
 use crate::blocks::Random;
 use crate::limits::to_a_limit;
 use crate::paper::{self, Block};
-use galemosu::{Component, Costs, Mode, Settings};
+use galemosu::{Component, Costs, Heights, Mode, Settings};
 use std::ops::Range;
 
 pub const COMPONENTS: [Component; 3] = [Component::Y, Component::U, Component::V];
@@ -56,6 +56,27 @@ pub struct Inverse {
     pub buffer: Vec<i16>,
     pub log2_w: usize,
     pub log2_h: usize,
+}
+
+#[derive(Debug)]
+pub struct Guarded {
+    pub call: SubBlock,
+    pub mode: Mode,
+    pub heights: [Heights; 3],
+}
+
+#[derive(Debug)]
+pub struct Measure {
+    pub residuals: Vec<i16>,
+    pub levels: Vec<i16>,
+    pub log2_side: usize,
+    pub qp: u32,
+}
+
+impl Measure {
+    pub fn needs(&self) -> usize {
+        1 << (2 * self.log2_side)
+    }
 }
 
 impl Transform {
@@ -219,6 +240,62 @@ pub fn sub_block(random: &mut Random, log2_luma: usize, run: u32, faulty: bool) 
         call.log2_luma = random.one(&WRONG_LUMA_SIDES);
     }
     random.lend(&mut call.buffer, faulty);
+    call
+}
+
+/// A guarded call of the given luma side and run bits, or a faulty one: any three-component call, or pictures at settings
+/// at which much is taken away; heights none, that some candidate reaches, or past all.
+pub fn guarded(random: &mut Random, log2_luma: usize, run: u32, faulty: bool) -> Guarded {
+    let mut call = sub_block(random, log2_luma, run, faulty);
+    let coarse = !faulty && random.below(4) != 0;
+    if coarse {
+        let run: Vec<usize> = (0..3).filter(|k| call.runs(*k)).collect();
+        for k in run {
+            let (w, part) = (1 << call.side(k), call.part(k));
+            let picture = random.accepted_picture(w, part.len());
+            call.buffer[part].copy_from_slice(&picture);
+            let mut settings = Settings::usual(random.between(16, 54) as u32);
+            settings.lambda = (settings.lambda * random.one(&[0.5, 1.0, 4.0, 16.0])).min(8192.0);
+            call.settings[k] = settings;
+        }
+        call.costs = random.one(&[Costs::START, Costs::equal(Costs::BIT)]);
+    }
+    let heights = [0; 3].map(|_| {
+        let most = random.one(&[8, 40, 150, 600, 1200]);
+        match random.below(12) {
+            0 => Heights::both(random.below(4) as u32),
+            1 => Heights::both(u32::MAX),
+            2 => Heights { darker: random.below(most) as u32, lighter: u32::MAX },
+            3 => Heights { darker: 33791, lighter: random.below(most) as u32 },
+            _ => Heights { darker: random.below(most) as u32, lighter: random.below(most) as u32 },
+        }
+    });
+    Guarded { call, mode: random.one(&[Mode::Walk, Mode::Walk, Mode::Least]), heights }
+}
+
+/// A measuring of the given side and QP, or a faulty call of it: of any residuals and levels, or of such as belong
+/// together.
+pub fn measure(random: &mut Random, log2_side: usize, qp: u32, faulty: bool) -> Measure {
+    let n = 1 << (2 * log2_side);
+    let mut call = Measure { residuals: random.any(n), levels: random.any(n), log2_side, qp };
+    if random.yes() {
+        call.residuals = random.accepted_picture(1 << log2_side, n);
+        call.levels = call.residuals.clone();
+        galemosu::transform(&mut call.levels, log2_side, log2_side).unwrap();
+        let step = 1i32 << (qp / 6);
+        call.levels.iter_mut().for_each(|c| *c = ((i32::from(*c) << (log2_side - 1)) / 16 / step) as i16);
+    }
+    if random.below(8) == 0 {
+        call.levels.fill(0);
+    }
+    if random.wrong(faulty) {
+        call.log2_side = random.one(&WRONG_SIDES);
+    }
+    if random.wrong(faulty) {
+        call.qp = random.one(&WRONG_QPS);
+    }
+    random.lend(&mut call.residuals, faulty);
+    random.lend(&mut call.levels, faulty);
     call
 }
 

@@ -1,19 +1,21 @@
 //! Holds the recorder's three calls against the Rust that they were ported from, built with overflow checks, and
 //! against document 01 worked out apart (paper.rs), the second mode of two of them against the cheapest block found
-//! apart (least.rs), and the viewer's two calls against their formulas worked out apart (formula.rs):
-//! `compare transform|quantise|sub_block|least|back|all [N]`, N random accepted calls of each. Status 0 when nothing
-//! differed and all that must come has come.
+//! apart (least.rs), the viewer's two calls against their formulas worked out apart (formula.rs), and the guarded call
+//! and `measure` against theirs (guarded.rs): `compare transform|quantise|sub_block|least|back|guarded|all [N]`, N
+//! random accepted calls of each. Status 0 when nothing differed and all that must come has come.
 
 mod back;
 mod blocks;
 mod calls;
 mod formula;
+mod guarded;
 mod least;
 mod limits;
 mod matrix;
 mod order;
 mod paper;
 mod quantise;
+mod scan;
 mod sub_block;
 mod tally;
 mod there;
@@ -34,6 +36,8 @@ const COMPARISONS: [Comparison; 3] = [
 const LEAST: Comparison = ("least", least::compare, 120_000);
 /// The way back, which it has neither.
 const BACK: [Comparison; 2] = [("back", back::scale_back, 100_000), ("back", back::inverse, 200_000)];
+/// The guarded call and `measure`, which it has neither.
+const GUARDED: [Comparison; 2] = [("guarded", guarded::compare, 100_000), ("guarded", guarded::measures, 50_000)];
 /// How many blocks go there and back.
 const THERE_AND_BACK: u64 = 100_000;
 
@@ -66,7 +70,7 @@ fn main() {
         refused += tally.refused;
         different += tally.different;
     }
-    if what != LEAST.0 && what != BACK[0].0 {
+    if COMPARISONS.iter().any(|(name, ..)| what == "all" || what == *name) {
         print!("in all: {both} accepted through both, {beyond} past the Rust's 32-bit rate, ");
         println!("{refused} refused, {different} different");
     }
@@ -78,6 +82,11 @@ fn main() {
             good &= compare(number.unwrap_or(usual)).report();
         }
         good &= there::compare(number.unwrap_or(THERE_AND_BACK));
+    }
+    if what == "all" || what == GUARDED[0].0 {
+        for (_, compare, usual) in GUARDED {
+            good &= compare(number.unwrap_or(usual)).report();
+        }
     }
     std::process::exit(!good as i32);
 }

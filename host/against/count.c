@@ -1,12 +1,15 @@
 /* The program whose instructions host/count-x86 counts: linked once with the library's archive and once with the
- * Rust, each of which has galemosu_transform and galemosu_quantise_y; the way back is in the archive alone. It stands
- * on nothing but Linux on x86-64.
+ * Rust, each of which has galemosu_transform and galemosu_quantise_y; the way back and the calls over three components
+ * are in the archive alone. It stands on nothing but Linux on x86-64.
  *
  *   count transform LOG2_W LOG2_H 1   TURNS times: copy a block of random residuals in, and transform it
  *   count quantise LOG2 LOG2 1        for each of BLOCKS blocks of a file of samples.rs on standard input, transformed:
  *                                     copy it in, and quantise it
  *   count inverse LOG2_W LOG2_H 1     as transform, of the coefficients of that block
  *   count scale LOG2 LOG2 1           as transform, of that block taken for levels, at QP 34
+ *   count free LOG2 LOG2 1            for each of BLOCKS blocks of such a file: copy it in as luma, and code it by
+ *                                     galemosu_sub_block
+ *   count guarded LOG2 LOG2 1         the same by galemosu_guarded_sub_block, with heights that nothing exceeds
  *
  * With 0 for 1 the same, with a call of two instructions that do nothing for the one that is counted. Writes a
  * checksum of what the calls left, and of the quantiser's counts. What it does beside the calls takes as many
@@ -21,9 +24,16 @@ typedef unsigned scales(short *block, size_t len, size_t log2_side, unsigned qp)
 typedef unsigned quantises(short *block, size_t len, size_t log2_side, unsigned qp, double lambda, unsigned flags,
     const u64 costs[28], u64 answer[3]);
 
+typedef unsigned three(short *buffer, size_t len, size_t log2_luma, const unsigned qp[3], const double lambda[3],
+    unsigned run, unsigned flags, const u64 costs[28], u64 answer[7]);
+typedef unsigned guards(short *buffer, size_t len, size_t log2_luma, const unsigned qp[3], const double lambda[3],
+    unsigned run, unsigned flags, const u64 costs[28], const unsigned heights[6], u64 answer[13]);
+
 transforms galemosu_transform, galemosu_inverse, no_transform;
 scales galemosu_scale_back, no_scale;
 quantises galemosu_quantise_y, no_quantise;
+three galemosu_sub_block, no_three;
+guards galemosu_guarded_sub_block, no_guard;
 /* of the Rust alone: takes the cost tables over, which its quantiser is lent in a shape of its own */
 __attribute__((weak)) void prepare(const u64 costs[28]);
 
@@ -34,8 +44,8 @@ __asm__(".globl _start\n"
         "and $-16, %rsp\n"
         "call run\n"
         "ud2\n"
-        ".globl no_transform, no_scale, no_quantise\n"
-        "no_transform: no_scale: no_quantise: xor %eax, %eax\n"
+        ".globl no_transform, no_scale, no_quantise, no_three, no_guard\n"
+        "no_transform: no_scale: no_quantise: no_three: no_guard: xor %eax, %eax\n"
         "ret\n");
 
 /* Sixteen bytes at a store, as on a processor of which no more is known than x86-64; the compiler unrolls the loop
@@ -83,7 +93,7 @@ static long system_call(long number, long a, long b, long c)
     return number;
 }
 
-static short given[BLOCKS][1024], room[1024];
+static short given[BLOCKS][1024], room[1536];
 static u64 sum = 0xcbf29ce484222325u;
 
 static void add(const short *block, size_t n)
@@ -166,6 +176,29 @@ static unsigned quantise_all(size_t log2, int counted)
     return refused;
 }
 
+/* luma alone, of an intra-coded block in an intra slice, by the walk; behind it there is room for chroma */
+static unsigned code_all(size_t log2, int guarded, int counted)
+{
+    three *const both[] = {no_three, galemosu_sub_block}, *volatile free = both[counted];
+    guards *const either[] = {no_guard, galemosu_guarded_sub_block}, *volatile guard = either[counted];
+    size_t n = (size_t)1 << 2 * log2, all = n + n / 2;
+    unsigned refused = 0;
+    all_read(&settings, sizeof settings);
+    unsigned qp[3] = {(unsigned)settings.qp, 0, 0}, heights[6] = {33791, 0, 0, 33791, 0, 0};
+    double lambda[3] = {settings.lambda, 0, 0};
+    for (int i = 0; i < BLOCKS; i++)
+        all_read(given[i], n * sizeof *room);
+    for (int i = 0; i < BLOCKS; i++) {
+        u64 answer[13] = {0};
+        memcpy(room, given[i], n * sizeof *room);
+        refused |= guarded ? guard(room, all, log2, qp, lambda, 1, 3, settings.costs, heights, answer)
+                           : free(room, all, log2, qp, lambda, 1, 3, settings.costs, answer);
+        add(room, n);
+        sum = (sum ^ answer[1]) * 0x100000001b3u;
+    }
+    return refused;
+}
+
 __attribute__((noreturn, used)) void run(const u64 *stack)
 {
     const char *const *words = (const char *const *)(stack + 1);
@@ -176,6 +209,8 @@ __attribute__((noreturn, used)) void run(const u64 *stack)
     case 't': refused = transform_all(log2_w, log2_h, 0, counted); break;
     case 'i': refused = transform_all(log2_w, log2_h, 1, counted); break;
     case 's': refused = scale_all(log2_w, counted); break;
+    case 'f': refused = code_all(log2_w, 0, counted); break;
+    case 'g': refused = code_all(log2_w, 1, counted); break;
     default: refused = quantise_all(log2_w, counted);
     }
 

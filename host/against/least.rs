@@ -8,7 +8,8 @@ use crate::blocks::Random;
 use crate::calls::{self, Quantise, SubBlock, COMPONENTS};
 use crate::fault_of;
 use crate::order::{self, Fault};
-use crate::paper::{scan, Block};
+use crate::paper::Block;
+use crate::scan::scan;
 use crate::tally::Tally;
 use galemosu::{Coded, Component, Costs, Mode, Settings};
 
@@ -215,6 +216,11 @@ fn found(tally: &mut Tally, block: &Block) -> Vec<i16> {
         assert_eq!(first, magnitudes, "the two ways of host/against/least.rs");
     }
     signed(block, &magnitudes)
+}
+
+/// The cheapest block of one that is not skipped.
+pub fn found_by_search(block: &Block) -> Vec<i16> {
+    signed(block, &forwards(block))
 }
 
 /// Magnitudes in scan order, the zeros at the end left out, as levels of the block.

@@ -1,7 +1,8 @@
 //! Which refusal document 01 gives a call, and of which component: the tests of each call, in its order, written from
-//! its text alone; and document 02's of the two calls of the way back.
+//! its text alone; document 02's of the two calls of the way back; and those of the guarded call and of `measure`.
 
-use crate::calls::{Inverse, Quantise, ScaleBack, SubBlock, Transform};
+use crate::calls::{Guarded, Inverse, Measure, Quantise, ScaleBack, SubBlock, Transform};
+use crate::guarded;
 
 /// A refusal's number and the component that it is reported with.
 pub type Fault = (u32, usize);
@@ -54,6 +55,16 @@ pub fn quantise(call: &Quantise) -> Option<Fault> {
 /// "The three-component call tests 1; 2 for Y, U, V; 3 likewise; 4; 5; 6 likewise; then 7, 8, 9 for Y, then U, then V
 /// [..]. Settings and samples of a component not run aren't read; test 4 reads every cost entry all the same."
 pub fn sub_block(call: &SubBlock) -> Option<Fault> {
+    first(of_three(call, |_| vec![]))
+}
+
+/// "15 behind 9 of the same component".
+pub fn guarded(call: &Guarded) -> Option<Fault> {
+    first(of_three(&call.call, |k| vec![(15, k, Box::new(move || guarded::written(call, k).is_none()))]))
+}
+
+/// The tests of the three-component call, and behind those of each component's coefficients what else is asked of it.
+fn of_three<'a>(call: &'a SubBlock, behind: impl Fn(usize) -> Vec<Test<'a>>) -> Vec<Test<'a>> {
     let run: Vec<usize> = (0..3).filter(|k| call.runs(*k)).collect();
     let mut tests: Vec<Test> = vec![(1, 0, Box::new(|| !(2..=5).contains(&call.log2_luma)))];
     for &k in &run {
@@ -71,8 +82,18 @@ pub fn sub_block(call: &SubBlock) -> Option<Fault> {
         tests.push((7, k, Box::new(move || call.block(k, &call.coefficients(k)).level_fault())));
         tests.push((8, k, Box::new(move || call.block(k, &call.coefficients(k)).price_fault())));
         tests.push((9, k, Box::new(move || call.block(k, &call.coefficients(k)).distortion_fault())));
+        tests.extend(behind(k));
     }
-    first(tests)
+    tests
+}
+
+/// "with 1, 2, 5", the last of either list.
+pub fn measure(call: &Measure) -> Option<Fault> {
+    first(vec![
+        (1, 0, Box::new(|| !(1..=5).contains(&call.log2_side))),
+        (2, 0, Box::new(|| call.qp > 63)),
+        (5, 0, Box::new(|| call.residuals.len() < call.needs() || call.levels.len() < call.needs())),
+    ])
 }
 
 /// "Refusals: 1, 2, 5 as in 01; no sample is refused."

@@ -3,6 +3,7 @@
 //! against the text.
 
 use crate::matrix::matrix;
+use crate::scan::scan;
 use galemosu::{Component, Costs};
 
 const SCALES: [i128; 6] = [26214, 23302, 20560, 18396, 16384, 14564];
@@ -29,20 +30,6 @@ pub fn transform(residuals: &[i16], log2_w: usize, log2_h: usize) -> Vec<i16> {
 /// Lambda's whole number, of a lambda that is not refused.
 pub fn whole(lambda: f64) -> i128 {
     (lambda * 32768.0 + 0.5) as i128
-}
-
-/// The places of a block in scan order: diagonals from the top left, the even ones from left to right, the odd ones
-/// from right to left.
-pub fn scan(side: usize) -> Vec<usize> {
-    let mut places = Vec::new();
-    for d in 0..2 * side - 1 {
-        let mut columns: Vec<usize> = (0..side).filter(|x| d >= *x && d - x < side).collect();
-        if d % 2 == 1 {
-            columns.reverse();
-        }
-        places.extend(columns.iter().map(|x| (d - x) * side + x));
-    }
-    places
 }
 
 /// A block that the quantiser is given, and that has passed refusals 1 to 6.

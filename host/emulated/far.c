@@ -42,6 +42,12 @@ static uint32_t made(struct call *c, int16_t *buffer)
     case QUANTISE_V: return quantised(galemosu_quantise_v, c, buffer);
     case SCALE_BACK: return galemosu_scale_back(buffer, c->len, c->log2_a, c->qp[0]);
     case INVERSE: return galemosu_inverse(buffer, c->len, c->log2_a, c->log2_b);
+    case GUARDED:
+        return galemosu_guarded_sub_block(buffer, c->len, c->log2_a, c->qp, c->lambda, c->run, c->flags, &c->costs,
+            c->heights, c->answer);
+    case MEASURE:
+        return galemosu_measure(buffer, c->residuals, buffer + c->residuals, c->len - c->residuals, c->log2_a, c->qp[0],
+            c->flags, c->answer);
     default:
         return galemosu_sub_block(buffer, c->len, c->log2_a, c->qp, c->lambda, c->run, c->flags, &c->costs, c->answer);
     }

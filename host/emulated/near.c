@@ -99,7 +99,7 @@ uint32_t galemosu_sub_block(int16_t *buffer, size_t len, size_t log2_luma, const
     struct call c = {.what = SUB_BLOCK, .len = len, .log2_a = log2_luma, .run = run, .flags = flags, .costs = *costs};
     memcpy(c.qp, qp, sizeof c.qp), memcpy(c.lambda, lambda, sizeof c.lambda);
     relayed(&c, buffer);
-    memcpy(answer, c.answer, sizeof c.answer);
+    memcpy(answer, c.answer, 7 * sizeof *answer);
     return c.result;
 }
 
@@ -113,4 +113,33 @@ uint32_t galemosu_inverse(int16_t *block, size_t len, size_t log2_w, size_t log2
 {
     struct call c = {.what = INVERSE, .len = len, .log2_a = log2_w, .log2_b = log2_h};
     return relayed(&c, block);
+}
+
+uint32_t galemosu_guarded_sub_block(int16_t *buffer, size_t len, size_t log2_luma, const uint32_t qp[3],
+    const double lambda[3], uint32_t run, uint32_t flags, const galemosu_costs *costs, const uint32_t heights[6],
+    uint64_t answer[13])
+{
+    struct call c = {.what = GUARDED, .len = len, .log2_a = log2_luma, .run = run, .flags = flags, .costs = *costs};
+    memcpy(c.qp, qp, sizeof c.qp), memcpy(c.lambda, lambda, sizeof c.lambda);
+    memcpy(c.heights, heights, sizeof c.heights);
+    relayed(&c, buffer);
+    memcpy(answer, c.answer, sizeof c.answer);
+    return c.result;
+}
+
+uint32_t galemosu_measure(const int16_t *residuals, size_t residuals_len, const int16_t *levels, size_t levels_len,
+    size_t log2_side, uint32_t qp, uint32_t flags, uint64_t answer[2])
+{
+    size_t len = residuals_len + levels_len;
+    struct call c = {.what = MEASURE, .len = len, .log2_a = log2_side, .residuals = residuals_len, .qp = {qp},
+        .flags = flags};
+    int16_t *both = malloc(len * sizeof *both + 2);
+    if (!both)
+        stop("no memory");
+    memcpy(both, residuals, residuals_len * sizeof *both);
+    memcpy(both + residuals_len, levels, levels_len * sizeof *both);
+    relayed(&c, both);
+    free(both);
+    memcpy(answer, c.answer, 2 * sizeof *answer);
+    return c.result;
 }

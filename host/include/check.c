@@ -1,6 +1,6 @@
 /* Calls every function of galemosu.h: document 01's P1 and P5, a block on which the two modes differ, a refusal of
- * each kind of call, flags and run bits that mean nothing, each pair of the costs by its name, and the way back of a
- * block. Status 0 if all is as it must be. */
+ * each kind of call, flags and run bits that mean nothing, each pair of the costs by its name, the way back of a
+ * block, and a block held to heights. Status 0 if all is as it must be. */
 #include "galemosu.h"
 #include <string.h>
 
@@ -171,10 +171,52 @@ static int inverse_is_right(void)
     return galemosu_inverse(low, 4, 1, 1) == GALEMOSU_ACCEPTED && !memcmp(low, sum, sizeof low);
 }
 
+/* Both extremes of one block; either list too short; of several faults the first is told. */
+static int measure_is_right(void)
+{
+    int16_t residuals[] = {100, 98, -40, 5, 99}, levels[] = {3, -1, 4, 1, 99};
+    uint64_t answer[2] = {5, 5};
+    if (galemosu_measure(residuals, 5, levels, 5, 1, 34, 0, answer) != GALEMOSU_ACCEPTED || answer[0] != 8
+        || answer[1] != 14)
+        return 0;
+    if (galemosu_measure(residuals, 3, levels, 4, 0, 64, 0, answer) != GALEMOSU_SIDE || answer[0] || answer[1])
+        return 0;
+    return galemosu_measure(residuals, 3, levels, 4, 1, 64, 0, answer) == GALEMOSU_QP
+        && galemosu_measure(residuals, 3, levels, 4, 1, 34, 0, answer) == GALEMOSU_LENGTH
+        && galemosu_measure(residuals, 4, levels, 3, 1, 34, 0, answer) == GALEMOSU_LENGTH;
+}
+
+/* A light stroke that this lambda takes away: with any height as galemosu_sub_block leaves it; held to 100, which needs
+ * levels put back; refused with 15 of Y at 0, and nothing is written. U and V, whose heights are 0, are not run. */
+static int guarded_is_right(void)
+{
+    int16_t seen[24] = {[5] = 300, [9] = 300, [13] = 300, [20] = 7}, free[24], any[24], held[24], refused[24];
+    uint32_t qp[3] = {46, 46, 46}, tall[6] = {33791, 0, 0, 33791, 0, 0}, low[6] = {100, 0, 0, 100, 0, 0}, none[6] = {0};
+    double lambda[3] = {2000.0, 2000.0, 2000.0};
+    uint64_t first[7], answer[13], found[2];
+    memcpy(free, seen, sizeof seen), memcpy(any, seen, sizeof seen);
+    memcpy(held, seen, sizeof seen), memcpy(refused, seen, sizeof seen);
+    if (galemosu_sub_block(free, 24, 2, qp, lambda, GALEMOSU_RUN_Y, INTRA, &costs, first) != GALEMOSU_ACCEPTED
+        || galemosu_guarded_sub_block(any, 24, 2, qp, lambda, GALEMOSU_RUN_Y, INTRA, &costs, tall, answer)
+            != GALEMOSU_ACCEPTED
+        || memcmp(free, any, sizeof free) || answer[1] != first[1] || answer[4] != first[4] || answer[7] != 300
+        || answer[10] != 0 || answer[8] || answer[9] || answer[11] || answer[12])
+        return 0;
+    if (galemosu_guarded_sub_block(held, 24, 2, qp, lambda, GALEMOSU_RUN_Y, INTRA, &costs, low, answer)
+            != GALEMOSU_ACCEPTED
+        || answer[1] == 0 || answer[4] <= first[4] || answer[7] > 100 || answer[10] > 100 || held[20] != 7
+        || galemosu_measure(seen, 24, held, 24, 2, 46, 0, found) != GALEMOSU_ACCEPTED || found[0] != answer[7]
+        || found[1] != answer[10])
+        return 0;
+    return galemosu_guarded_sub_block(refused, 24, 2, qp, lambda, 7, INTRA, &costs, none, answer) == GALEMOSU_HEIGHT
+        && answer[0] == 0 && answer[1] == 0 && answer[7] == 0 && !memcmp(refused, seen, sizeof seen);
+}
+
 int main(void)
 {
     all_costs(32768);
     return !(galemosu_version() == GALEMOSU_VERSION && transform_is_right() && quantise_is_right() && modes_are_right()
         && skip_is_right() && costs_are_right() && sub_block_is_right(INTRA)
-        && sub_block_is_right(INTRA | GALEMOSU_LEAST) && scale_back_is_right() && inverse_is_right());
+        && sub_block_is_right(INTRA | GALEMOSU_LEAST) && scale_back_is_right() && inverse_is_right()
+        && measure_is_right() && guarded_is_right());
 }

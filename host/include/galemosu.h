@@ -1,9 +1,10 @@
-/* The proved transform and quantiser of an EVC recorder, and their way back: libgalemosu.a, version 0.4.0.
+/* The proved transform and quantiser of an EVC recorder, and their way back: libgalemosu.a, version 0.5.0.
  *
  * The recorder's half is galemosu_transform, galemosu_quantise_* and galemosu_sub_block; the viewer's is
- * galemosu_scale_back and galemosu_inverse. docs/HOSTING.md walks through coding and showing one block;
- * docs/PROMISES.md says what is proved. What is proved speaks of residuals, coefficients, levels and prices, never of
- * what a viewer shows of a sample (docs/ANSWER.md).
+ * galemosu_scale_back and galemosu_inverse. Both together are galemosu_guarded_sub_block, which holds every sample of
+ * what is shown to heights that the host names, and galemosu_measure. docs/HOSTING.md walks through coding and showing
+ * one block; docs/PROMISES.md says what is proved. Of the calls without "guarded" what is proved speaks of residuals,
+ * coefficients, levels and prices, never of how far a sample that a viewer shows is off (docs/ANSWER.md).
  *
  * RESULTS. Every call comes back, for all numbers, lengths and samples. The result is 0 (GALEMOSU_ACCEPTED) or the
  * number of the first fault that holds, in the order of enum galemosu_refusal; a refused buffer then holds what it
@@ -11,20 +12,21 @@
  *
  * ANSWERS. `answer` is written in either case. Of a refusal it has the component (0, 1, 2 for Y, U, V; 0 where the
  * fault belongs to none: GALEMOSU_SIDE, GALEMOSU_COST, GALEMOSU_LENGTH) and zeros. galemosu_transform,
- * galemosu_scale_back and galemosu_inverse have no answer: they treat all components alike, and a fault of theirs
- * belongs to none.
+ * galemosu_scale_back and galemosu_inverse have no answer, and galemosu_measure's has no component: they treat all
+ * components alike, and a fault of theirs belongs to none.
  *
  * MEMORY. A block or buffer is a pointer and a length in samples. What lies behind the block in a longer buffer is
  * neither read nor changed. Pointers are not null, also at length 0, and aligned to their type; arrays have the lengths
  * written here. What a call writes (block or buffer, answer) must not overlap anything else that it is lent; what it
- * only reads (costs, qp, lambda) may be shared by calls that run at the same time.
+ * only reads (costs, qp, lambda, heights, residuals, levels) may be shared by calls that run at the same time.
  *
  * STATE AND THREADS. There is none to set up or to keep: no writable global, no allocation, no lock, no file. A call
  * depends on its arguments alone, and calls may run on any threads at the same time. Of C's library only memcpy and
  * memset are asked for. Floating point is used for lambda alone, and must round to nearest, as C does at its start.
  *
- * STACK. A call takes at most 16 KB in galemosu_transform and in galemosu_inverse, 14 KB in galemosu_quantise_*, 20 KB
- * in galemosu_sub_block, 1 KB in galemosu_scale_back: measured by host/include/stack.c, which fails where it is more.
+ * STACK. A call takes at most 16 KB in galemosu_transform and in galemosu_quantise_*, 18 KB in galemosu_inverse, 20 KB
+ * in galemosu_sub_block and in galemosu_measure, 36 KB in galemosu_guarded_sub_block, 1 KB in galemosu_scale_back:
+ * measured by host/include/stack.c, which fails where it is more.
  *
  * TARGETS. 64-bit processors only: this is asserted below.
  */
@@ -39,7 +41,7 @@ extern "C" {
 #endif
 
 /* major*10000 + minor*100 + patch, of this header */
-#define GALEMOSU_VERSION 400
+#define GALEMOSU_VERSION 500
 
 /* The same of the archive that was linked. A host compares the two once, at its start: an archive of another version
  * may read other arguments. */
@@ -55,7 +57,8 @@ enum galemosu_refusal {
     GALEMOSU_SAMPLE = 6,     /* a residual is outside -1023..1023; of galemosu_quantise_*, a coefficient is -32768 */
     GALEMOSU_LEVEL = 7,      /* a rounded magnitude is above 32767 */
     GALEMOSU_PRICE = 8,      /* lambda's whole number times the largest rounded magnitude plus one is above 2^41 */
-    GALEMOSU_DISTORTION = 9  /* the squared errors of the block left uncoded add up to more than 2^60 */
+    GALEMOSU_DISTORTION = 9, /* the squared errors of the block left uncoded add up to more than 2^60 */
+    GALEMOSU_HEIGHT = 15     /* of a guarded block: no candidate costs less than 2^62 with all samples in the heights */
 };
 
 /* Bits of `flags`. Bit 3 is kept for a second scale table; leave it 0. Bits above it mean nothing. */
@@ -159,6 +162,34 @@ uint32_t galemosu_scale_back(int16_t *block, size_t len, size_t log2_side, uint3
  * sides it comes near them. What comes out is not held to -1023..1023, and the guess is not in it.
  * Tests 1 and 5, in this order. No coefficient is refused. */
 uint32_t galemosu_inverse(int16_t *block, size_t len, size_t log2_w, size_t log2_h);
+
+/* GUARDED. A residual is the camera's sample less a guess, and a viewer adds what it decodes to the same guess. So how
+ * far what is decoded lies from the residuals is how far what is shown lies from what the camera saw, whatever the
+ * guess was: camera - darker <= shown <= camera + lighter, where samples are 0 to 1023 and what is shown is clipped to
+ * that. Where paper is at least W, ink at most W - C, and the two heights add up to less than C, one threshold tells
+ * paper from ink in what is shown. This is proved of every sample of an accepted galemosu_guarded_sub_block, for a
+ * viewer that decodes as galemosu_scale_back and galemosu_inverse do and has the recorder's guess; a filter behind it
+ * is not spoken of. */
+
+/* galemosu_sub_block, held to heights: how much darker a sample of Y, U, V may get, then how much lighter. Each block
+ * is decoded as a viewer does it. Where a sample is off by more, the level at the first place in scan order is put back
+ * to m, its rounded magnitude, then those at the first 2, 4, 8 places and so on up to all; the first block that is
+ * within, and costs less than 2^62, is written. Where none is, plain rounding neither, the call is refused with 15 and
+ * the component. Levels are still 0 or have the coefficient's sign and magnitude m or m - 1.
+ * Tests as galemosu_sub_block, with 15 behind 9 of the same component; nothing is written before all have passed.
+ * answer: component, counts, prices, how much darker, how much lighter the samples got at most, each of Y U V; the last
+ * two are exact. Of a component that is not run all are 0, and its heights are not looked at. With heights of 33791 and
+ * more it answers as galemosu_sub_block does. */
+uint32_t galemosu_guarded_sub_block(int16_t *buffer, size_t len, size_t log2_luma, const uint32_t qp[3],
+    const double lambda[3], uint32_t run, uint32_t flags, const galemosu_costs *costs, const uint32_t heights[6],
+    uint64_t answer[13]);
+
+/* How far what a viewer makes of the levels of a square block of side 2^log2_side, of any origin, lies from the
+ * residuals at most: answer is how much darker a sample gets, and how much lighter; both are exact, and 0 where the
+ * call is refused. Nothing else is written. No bit of flags means anything yet: pass 0. Tests 1, 2 and 5 (of either), in
+ * this order. No sample is refused. */
+uint32_t galemosu_measure(const int16_t *residuals, size_t residuals_len, const int16_t *levels, size_t levels_len,
+    size_t log2_side, uint32_t qp, uint32_t flags, uint64_t answer[2]);
 
 #ifdef __cplusplus
 }

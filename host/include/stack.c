@@ -1,6 +1,7 @@
 /* How much stack the calls of galemosu.h take: the memory below this program's own frame is filled with one byte, a
  * call is made, and the lowest byte that has changed tells. Every shape, side, component and mode, on blocks that are
- * skipped and blocks of which every level is kept; the way back on the same blocks, taken for levels and coefficients.
+ * skipped and blocks of which every level is kept; the way back on the same blocks, taken for levels and coefficients;
+ * the guarded call with heights that nothing exceeds, and with 0, so that every candidate is tried.
  * Prints the most of each call in bytes, 512 where it is no more than that; status 1 where one takes more than
  * galemosu.h says. What memcpy and memset take counts. */
 #include "galemosu.h"
@@ -14,7 +15,8 @@ static size_t log2_a, log2_b;
 static uint32_t flags, qp[3] = {4, 4, 4};
 static double lambda[3] = {0.25, 0.25, 0.25};
 static galemosu_costs costs;
-static uint64_t answer[7];
+static uint64_t answer[13];
+static uint32_t heights[6];
 static uint32_t refused;
 
 static void transform(void) { refused |= galemosu_transform(block, 1024, log2_a, log2_b); }
@@ -36,6 +38,14 @@ static void sub_block(void)
 }
 
 static void scale_back(void) { refused |= galemosu_scale_back(block, 1024, log2_a, qp[0]); }
+static void guarded(void)
+{
+    for (int i = 0; i < 6; i++)
+        heights[i] = log2_b == 1 ? 33791 : 0;
+    uint32_t result = galemosu_guarded_sub_block(block, 3 * 512, log2_a, qp, lambda, 7, flags, &costs, heights, answer);
+    refused |= result == GALEMOSU_HEIGHT ? 0 : result;
+}
+static void measure(void) { refused |= galemosu_measure(block, 1024, block, 1024, log2_a, qp[0], 0, answer); }
 static void inverse(void) { refused |= galemosu_inverse(block, 1024, log2_a, log2_b); }
 
 /* The bytes below this frame that a call has changed, from the lowest of them up. */
@@ -97,12 +107,14 @@ int main(void)
         all[i] = 32768;
     memcpy(&costs, all, sizeof costs);
     int good = within("galemosu_transform", most_of(transform, 1), 16 * 1024);
-    good &= within("galemosu_quantise_y", most_of(quantise_y, 1), 14 * 1024);
-    good &= within("galemosu_quantise_u", most_of(quantise_u, 1), 14 * 1024);
-    good &= within("galemosu_quantise_v", most_of(quantise_v, 1), 14 * 1024);
+    good &= within("galemosu_quantise_y", most_of(quantise_y, 1), 16 * 1024);
+    good &= within("galemosu_quantise_u", most_of(quantise_u, 1), 16 * 1024);
+    good &= within("galemosu_quantise_v", most_of(quantise_v, 1), 16 * 1024);
     good &= within("galemosu_sub_block", most_of(sub_block, 2), 20 * 1024);
     good &= within("galemosu_scale_back", most_of(scale_back, 1), 1024);
-    good &= within("galemosu_inverse", most_of(inverse, 1), 16 * 1024);
+    good &= within("galemosu_inverse", most_of(inverse, 1), 18 * 1024);
+    good &= within("galemosu_guarded_sub_block", most_of(guarded, 2), 36 * 1024);
+    good &= within("galemosu_measure", most_of(measure, 1), 20 * 1024);
     if (refused)
         printf("a call was refused: not all was measured\n");
     return !good || refused;

@@ -4,9 +4,11 @@
 //! The recorder's half: [`transform`] turns a block of residuals into coefficients, [`quantise`] turns those of a
 //! square block into levels, and [`sub_block`] does both for the three components of a block. The viewer's half:
 //! [`scale_back`] turns the levels of a square block into coefficients, and [`inverse`] turns coefficients into
-//! residuals. All work in place, on lent slices of any length, and look at everything themselves: every call comes
-//! back, for all settings, lengths and samples. A refused call says why, as a [`Refused`] or a [`Refusal`], and leaves
-//! the lent block as it was.
+//! residuals. Both at once: [`guarded_sub_block`] is [`sub_block`] held to heights, so that no sample is shown darker or
+//! lighter than the camera saw it by more than the host allows, and [`measure`] says how far the samples of any levels
+//! are off. All work on lent slices of any length, in place but for `measure`, which writes nothing, and look at
+//! everything themselves: every call comes back, for all settings, lengths and samples. A refused call says why, as a
+//! [`Refused`] or a [`Refusal`], and leaves the lent block as it was.
 //!
 //! ```
 //! use galemosu::{inverse, quantise, scale_back, transform, Component, Costs, Quantise, Refused, Settings};
@@ -26,11 +28,13 @@
 //! }
 //! ```
 //!
-//! # What is proved speaks of levels, not of samples
+//! # What is proved, of levels and of samples
 //!
 //! For accepted calls: no level above its rounded magnitude, no sign changed, nothing added, the price reported that of
-//! the block written. A level within its bound can still leave a stroke that only the guess had, or darken a gap: what
-//! a viewer can see is measured, not proved, in `docs/ANSWER.md`. The Rust of this crate is not proved either.
+//! the block written. A level within its bound can still leave a stroke that only the guess had, or darken a gap: how
+//! much of that a viewer can see of [`sub_block`] is measured, not proved, in `docs/ANSWER.md`. Of [`guarded_sub_block`]
+//! it is proved how far a sample that is shown can be off: by the heights, and no more, before any filter. The Rust of
+//! this crate is not proved.
 //!
 //! Of the way back it is proved that the two calls give the numbers of their definition, the formulas that stand at
 //! [`scale_back`] and [`inverse`]: document 02's, as the standard's own text, ISO/IEC 23094-1, was not at hand. They
@@ -61,7 +65,8 @@
 //!
 //! There is no state to set up or to keep: no writable global, no allocation, no lock. A call depends on its arguments
 //! alone, and calls may run on any threads at the same time. A call takes at most 16 KB of stack in `transform` and in
-//! `inverse`, 14 KB in `quantise`, 20 KB in `sub_block` and 1 KB in `scale_back` (measured by `host/include/stack.c`).
+//! `quantise`, 18 KB in `inverse`, 20 KB in `sub_block` and in `measure`, 36 KB in `guarded_sub_block` and 1 KB in
+//! `scale_back` (measured by `host/include/stack.c`).
 //! The crate is `no_std`; the archive asks for `memcpy` and `memset` and nothing else, rounds lambda in the
 //! floating-point mode that it finds, which must be to nearest, and is for 64-bit targets only.
 
@@ -94,7 +99,7 @@ struct Readme;
 struct Hosting;
 
 /// The version of the archive that this crate is for: major·10000 + minor·100 + patch.
-pub const VERSION: u32 = 400;
+pub const VERSION: u32 = 500;
 
 /// The version of the archive that was linked. A host compares it with [`VERSION`] once, at its start: an archive of
 /// another version may read other arguments.
@@ -259,7 +264,7 @@ pub fn transform(block: &mut [i16], log2_w: usize, log2_h: usize) -> Result<(), 
 
 /// Quantises, in place, the square block of coefficients at the front of `block`.
 ///
-/// The levels take the coefficients' place; what lies behind the block is neither read nor changed. All nine refusals
+/// The levels take the coefficients' place; what lies behind the block is neither read nor changed. Refusals 1 to 9
 /// can come, in their order; `Level`, `Price` and `Distortion` only for a block that the skip does not clear. They are
 /// the same in both modes.
 ///
@@ -389,4 +394,139 @@ pub fn inverse(block: &mut [i16], log2_w: usize, log2_h: usize) -> Result<(), Re
     // SAFETY: the pointer and the length are those of one lent slice; a slice's pointer is not null and is aligned.
     let number = unsafe { raw::galemosu_inverse(block.as_mut_ptr(), block.len(), log2_w, log2_h) };
     Refusal::of(number).map_or(Ok(()), |refusal| Err(refusal.into()))
+}
+
+/// How far the samples of a block may be off: what the host allows [`guarded_sub_block`].
+#[derive(Clone, Copy, Debug, PartialEq, Eq, Hash)]
+pub struct Heights {
+    /// How much darker than the camera saw it a sample may be shown.
+    pub darker: u32,
+    /// How much lighter.
+    pub lighter: u32,
+}
+
+impl Heights {
+    /// More than any accepted block can be off: with these, [`guarded_sub_block`] writes what [`sub_block`] writes.
+    pub const ANY: Heights = Heights::both(33791);
+
+    /// As much darker as lighter.
+    pub const fn both(height: u32) -> Heights {
+        Heights { darker: height, lighter: height }
+    }
+}
+
+/// How far the samples of a block are off at most, exactly. A residual is the camera's sample less a guess, and a viewer
+/// adds what it decodes to the same guess: so these are distances of what is shown from what the camera saw, whatever
+/// the guess was.
+#[derive(Clone, Copy, Debug, PartialEq, Eq, Hash)]
+pub struct Extremes {
+    /// How much darker than the camera saw it a sample is shown at most.
+    pub darker: u32,
+    /// How much lighter.
+    pub lighter: u32,
+}
+
+/// What was coded of a guarded component.
+#[derive(Clone, Copy, Debug, PartialEq, Eq, Hash)]
+pub struct Guarded {
+    /// The count and the price of the block written.
+    pub coded: Coded,
+    /// How far its samples are off; 0 and 0 of a component that was not run.
+    pub extremes: Extremes,
+}
+
+/// [`sub_block`], held to heights: of each component that is run, every sample that a viewer makes of the block written
+/// lies at most so much below and above what the camera saw as `heights` of Y, U and V say.
+///
+/// The library decodes each block that it codes, as a viewer does, and looks at every sample. Where one is off by more
+/// than its height, the levels of the first place in scan order are put back to their rounded magnitudes, then of the
+/// first 2, 4, 8 and so on up to all, until every sample is within; the first block that is within is written. Where
+/// even plain rounding at this QP is not, or costs 2^62 or more, the call is refused with `Height` of the component, and
+/// nothing is written: code the block at a lower QP, or send it another way. `Height` comes behind `Distortion` of the
+/// same component; all other refusals are those of [`sub_block`], in their order.
+///
+/// With the camera's sample between 0 and 1023 and what is shown clipped to that range, for any guess: camera -
+/// darker ≤ shown ≤ camera + lighter. Where paper is at least W, ink at most W - C, and the two heights add up to less
+/// than C, one threshold tells paper from ink in what is shown. All this is proved; a viewer that does other arithmetic,
+/// has another guess, or filters behind it is not spoken of.
+///
+/// ```
+/// use galemosu::{guarded_sub_block, measure, Costs, Extremes, Heights, Settings, SubBlock};
+///
+/// let camera = [0i16, 0, 0, 0, 0, 300, 0, 0, 0, 300, 0, 0, 0, 300, 0, 0]; // a light stroke, 4×4
+/// let mut buffer = [0i16; 16 + 4 + 4];
+/// buffer[..16].copy_from_slice(&camera);
+/// let mut call = SubBlock::new(2, [Settings { qp: 46, lambda: 2000.0 }; 3], &Costs::START);
+/// call.run = SubBlock::RUN_Y;
+///
+/// let [y, ..] = guarded_sub_block(&mut buffer.clone(), &call, &[Heights::ANY; 3]).unwrap();
+/// assert_eq!((y.coded.count, y.extremes), (0, Extremes { darker: 300, lighter: 0 })); // the stroke is taken away
+///
+/// let [y, ..] = guarded_sub_block(&mut buffer, &call, &[Heights::both(100); 3]).unwrap();
+/// assert!(y.coded.count > 0 && y.extremes.darker <= 100 && y.extremes.lighter <= 100);
+/// assert_eq!(measure(&camera, &buffer, 2, 46), Ok(y.extremes));
+/// ```
+pub fn guarded_sub_block(buffer: &mut [i16], call: &SubBlock, heights: &[Heights; 3]) -> Result<[Guarded; 3], Refused> {
+    let (qp, lambda) = (call.settings.map(|s| s.qp), call.settings.map(|s| s.lambda));
+    let [y, u, v] = heights;
+    let heights = [y.darker, u.darker, v.darker, y.lighter, u.lighter, v.lighter];
+    let mut answer = [0u64; 13];
+    // SAFETY: the buffer is one lent slice; the arrays have the lengths that the call reads and writes, and outlive it.
+    let number = unsafe {
+        raw::galemosu_guarded_sub_block(
+            buffer.as_mut_ptr(),
+            buffer.len(),
+            call.log2_luma,
+            qp.as_ptr(),
+            lambda.as_ptr(),
+            call.run,
+            flags(call.intra_slice, call.intra_coded, call.mode),
+            call.costs,
+            heights.as_ptr(),
+            answer.as_mut_ptr(),
+        )
+    };
+    match Refused::of(number, answer[0]) {
+        None => Ok([0, 1, 2].map(|k| Guarded {
+            coded: Coded { count: answer[1 + k] as u32, price: answer[4 + k] },
+            extremes: Extremes { darker: answer[7 + k] as u32, lighter: answer[10 + k] as u32 },
+        })),
+        Some(refused) => Err(refused),
+    }
+}
+
+/// How far the samples that a viewer makes of the square block of levels at the front of `levels` are off at most, by
+/// the residuals at the front of `residuals`; both of side 2^log2_side, by rows. The levels may be of any origin: of
+/// another QP's try, of another mode, of a file.
+///
+/// The two extremes are exact: no sample is further off, and one is as far (or they are 0). Nothing is written.
+/// Refusals, in this order: `Side` for a log2 side outside 1..5, `Qp` for one above 63, `Length` where either slice is
+/// shorter than the block; none tells a component. No sample is refused.
+///
+/// ```
+/// use galemosu::{measure, Extremes};
+///
+/// // what is decoded of these levels is 112, 112, -48, 16
+/// assert_eq!(measure(&[100, 98, -40, 5], &[3, -1, 4, 1], 1, 34), Ok(Extremes { darker: 8, lighter: 14 }));
+/// ```
+pub fn measure(residuals: &[i16], levels: &[i16], log2_side: usize, qp: u32) -> Result<Extremes, Refused> {
+    let mut answer = [0u64; 2];
+    // SAFETY: both are lent slices, whose pointers are not null and are aligned; the answer has the length that the call
+    // writes, and outlives it.
+    let number = unsafe {
+        raw::galemosu_measure(
+            residuals.as_ptr(),
+            residuals.len(),
+            levels.as_ptr(),
+            levels.len(),
+            log2_side,
+            qp,
+            0,
+            answer.as_mut_ptr(),
+        )
+    };
+    match Refusal::of(number) {
+        None => Ok(Extremes { darker: answer[0] as u32, lighter: answer[1] as u32 }),
+        Some(refusal) => Err(refusal.into()),
+    }
 }

@@ -4,9 +4,11 @@
 //! # Safety
 //!
 //! Of every function but [`galemosu_version`]: pointers are not null and are aligned, also at length 0. `block` or
-//! `buffer` is `len` samples, `costs` a [`Costs`], `qp` and `lambda` are three numbers each, `answer` is three numbers
-//! of [`galemosu_quantise_y`] and its kind, seven of [`galemosu_sub_block`]. What is written (`block` or `buffer`,
-//! `answer`) overlaps nothing else that is lent. Nothing is asked of what the numbers are.
+//! `buffer` is `len` samples, `residuals` and `levels` are as many samples as the number behind each says, `costs` is a
+//! [`Costs`], `qp` and `lambda` are three numbers each, `heights` six, `answer` is three numbers of
+//! [`galemosu_quantise_y`] and its kind, seven of [`galemosu_sub_block`], thirteen of [`galemosu_guarded_sub_block`], two
+//! of [`galemosu_measure`]. What is written (`block` or `buffer`, `answer`) overlaps nothing else that is lent. Nothing
+//! is asked of what the numbers are.
 
 use crate::Costs;
 
@@ -66,6 +68,34 @@ extern "C" {
         run: u32,
         flags: u32,
         costs: *const Costs,
+        answer: *mut u64,
+    ) -> u32;
+
+    /// [`galemosu_sub_block`], held to `heights`: how much darker Y, U and V may get, then how much lighter. `answer` is
+    /// component, counts, prices, and how much darker and how much lighter they got, each of Y, U, V.
+    pub fn galemosu_guarded_sub_block(
+        buffer: *mut i16,
+        len: usize,
+        log2_luma: usize,
+        qp: *const u32,
+        lambda: *const f64,
+        run: u32,
+        flags: u32,
+        costs: *const Costs,
+        heights: *const u32,
+        answer: *mut u64,
+    ) -> u32;
+
+    /// How far what a viewer makes of levels lies from the residuals at most; `answer` is how much darker, how much
+    /// lighter. No bit of `flags` means anything yet.
+    pub fn galemosu_measure(
+        residuals: *const i16,
+        residuals_len: usize,
+        levels: *const i16,
+        levels_len: usize,
+        log2_side: usize,
+        qp: u32,
+        flags: u32,
         answer: *mut u64,
     ) -> u32;
 }

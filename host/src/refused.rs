@@ -23,6 +23,9 @@ pub enum Refusal {
     Price,
     /// 9: the squared errors of the block left uncoded add up to more than 2^60.
     Distortion,
+    /// 15: no candidate of a guarded block has a price below 2^62 and samples within the heights: not even with every
+    /// level rounded.
+    Height,
     /// The archive has answered a number that this crate does not know: it is one of another version.
     Unknown(u32),
 }
@@ -41,6 +44,7 @@ impl Refusal {
             7 => Refusal::Level,
             8 => Refusal::Price,
             9 => Refusal::Distortion,
+            15 => Refusal::Height,
             other => Refusal::Unknown(other),
         })
     }
@@ -57,6 +61,7 @@ impl Refusal {
             Refusal::Level => 7,
             Refusal::Price => 8,
             Refusal::Distortion => 9,
+            Refusal::Height => 15,
             Refusal::Unknown(number) => number,
         }
     }
@@ -79,6 +84,7 @@ impl Display for Refusal {
             Refusal::Level => "a rounded magnitude is above 32767",
             Refusal::Price => "lambda times the largest rounded magnitude plus one is above 2^41",
             Refusal::Distortion => "the squared errors of the uncoded block add up to more than 2^60",
+            Refusal::Height => "no levels of this block bring every sample within the heights",
             Refusal::Unknown(_) => "a reason unknown to this version of the host crate",
         })
     }
@@ -118,7 +124,7 @@ pub struct Refused {
     /// Why.
     pub refusal: Refusal,
     /// The component whose fault it is, where it is one's: not of sides, costs and lengths, nor in the transform,
-    /// scaling back and the inverse, which work on whatever component it is.
+    /// scaling back, the inverse and the measuring, which work on whatever component it is.
     pub component: Option<Component>,
 }
 
@@ -149,7 +155,7 @@ impl Display for Refused {
 
 impl Error for Refused {}
 
-/// What the transform, scaling back and the inverse refuse belongs to no component.
+/// What the transform, scaling back, the inverse and the measuring refuse belongs to no component.
 impl From<Refusal> for Refused {
     fn from(refusal: Refusal) -> Refused {
         Refused { refusal, component: None }

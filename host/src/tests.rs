@@ -43,7 +43,7 @@ fn the_header_has_the_same_numbers() {
     defined("GALEMOSU_RUN_Y", SubBlock::RUN_Y);
     defined("GALEMOSU_RUN_U", SubBlock::RUN_U);
     defined("GALEMOSU_RUN_V", SubBlock::RUN_V);
-    for number in 1..=9 {
+    for number in (1..=9).chain([15]) {
         let name = format!("{:?}", Refusal::of(number).unwrap()).to_uppercase();
         assert!(header.contains(&format!("    GALEMOSU_{name} = {number}")), "{name} is not {number} in galemosu.h");
     }
@@ -56,7 +56,7 @@ fn every_number_but_0_is_a_refusal() {
     for number in (1..300).chain([1 << 16, 1 << 31, u32::MAX]) {
         let refusal = Refusal::of(number).unwrap();
         assert_eq!(refusal.number(), number);
-        assert_eq!(refusal == Refusal::Unknown(number), number > 9);
+        assert_eq!(refusal == Refusal::Unknown(number), number > 9 && number != 15);
         let strange = Refused { refusal: Refusal::Unknown(number), component: None };
         for (component, told) in COMPONENTS.into_iter().zip(0..) {
             let right = match refusal.is_of_a_component() {
@@ -627,4 +627,137 @@ fn the_way_back_refuses_in_order_and_leaves_the_block() {
         assert_eq!(inverse(&mut block, log2_w, log2_h), told(Refusal::Length));
         assert_eq!(block, held);
     }
+}
+
+// ---- the guarded block
+
+/// Residuals of 16×16 luma and of chroma behind it, without a period.
+fn grained(amplitude: i32) -> Vec<i16> {
+    let one = |i: i32| (i * i * 37 + i * 11) % (2 * amplitude + 1) - amplitude;
+    (0..384).map(|i| one(i) as i16).collect()
+}
+
+fn coarse(costs: &Costs) -> SubBlock<'_> {
+    let mut call = SubBlock::new(4, [40, 43, 37].map(Settings::usual), costs);
+    (call.intra_slice, call.intra_coded) = (true, true);
+    call
+}
+
+/// What the calls of the way back make of levels, held against the residuals.
+fn extremes(residuals: &[i16], levels: &[i16], log2: usize, qp: u32) -> Extremes {
+    let mut block = levels.to_vec();
+    scale_back(&mut block, log2, qp).unwrap();
+    inverse(&mut block, log2, log2).unwrap();
+    let apart: Vec<i32> = residuals.iter().zip(&block).map(|(r, d)| i32::from(*r) - i32::from(*d)).collect();
+    let most = |apart: Vec<i32>| apart.into_iter().max().unwrap().max(0) as u32;
+    Extremes { darker: most(apart.clone()), lighter: most(apart.into_iter().map(|d| -d).collect()) }
+}
+
+#[test]
+fn with_any_height_the_guarded_call_is_the_unguarded_one() {
+    for mode in [Mode::Walk, Mode::Least] {
+        for run in 0..8 {
+            for (amplitude, qps) in [(3, [40, 43, 37]), (300, [40, 43, 37]), (1023, [4, 22, 63])] {
+                let held = grained(amplitude);
+                let call = SubBlock { mode, run, settings: qps.map(Settings::usual), ..coarse(&FLAT) };
+                let (mut free, mut any) = (held.clone(), held.clone());
+                let coded = sub_block(&mut free, &call).unwrap();
+                let guarded = guarded_sub_block(&mut any, &call, &[Heights::ANY; 3]).unwrap();
+                assert_eq!(free, any);
+                assert_eq!(guarded.map(|component| component.coded), coded);
+                for (k, part) in [0..256, 256..320, 320..384].into_iter().enumerate() {
+                    let right = match run >> k & 1 {
+                        0 => Extremes { darker: 0, lighter: 0 },
+                        _ => extremes(&held[part.clone()], &any[part], 4 - (k != 0) as usize, qps[k]),
+                    };
+                    assert_eq!(guarded[k].extremes, right);
+                }
+            }
+        }
+    }
+}
+
+#[test]
+fn every_sample_is_held_to_its_height() {
+    let (held, mut call) = (grained(300), coarse(&FLAT));
+    call.settings.iter_mut().for_each(|settings| settings.lambda *= 16.0);
+    let mut repaired = 0;
+    for darker in (0..400).step_by(9) {
+        for lighter in [darker, 2 * darker, 33791] {
+            let heights =
+                [Heights { darker, lighter }, Heights::both(400), Heights { darker: lighter, lighter: darker }];
+            let mut block = held.clone();
+            match guarded_sub_block(&mut block, &call, &heights) {
+                Ok(guarded) => {
+                    for (k, part) in [0..256, 256..320, 320..384].into_iter().enumerate() {
+                        let (log2, qp, found) = (4 - (k != 0) as usize, call.settings[k].qp, guarded[k].extremes);
+                        assert_eq!(found, extremes(&held[part.clone()], &block[part.clone()], log2, qp));
+                        assert_eq!(measure(&held[part.clone()], &block[part], log2, qp), Ok(found));
+                        assert!(found.darker <= heights[k].darker && found.lighter <= heights[k].lighter);
+                    }
+                    let mut free = held.clone();
+                    sub_block(&mut free, &call).unwrap();
+                    repaired += (free != block) as u32;
+                }
+                Err(refused) => {
+                    assert_eq!(refused.refusal, Refusal::Height);
+                    assert_ne!(refused.component, Some(Component::U));
+                    assert_eq!(block, held);
+                }
+            }
+        }
+    }
+    assert!(repaired > 10, "{repaired}");
+}
+
+/// A height is asked for behind all else of its component, and before what only the next one's coefficients show.
+#[test]
+fn a_height_is_refused_in_its_place() {
+    let none = [Heights::both(0); 3];
+    let costs = Costs::equal(1_048_576);
+    let far = [Settings::usual(50); 3];
+    let dear = Settings { qp: 0, lambda: 8192.0 };
+    let told = |settings: [Settings; 3], costs, amplitude, log2_luma| {
+        let call = SubBlock { settings, costs, log2_luma, ..coarse(costs) };
+        let mut block = grained(amplitude);
+        if log2_luma == 5 {
+            block = vec![1023; 1536];
+        }
+        let held = block.clone();
+        let refused = guarded_sub_block(&mut block, &call, &none).unwrap_err();
+        assert_eq!(block, held);
+        (refused.refusal, refused.component)
+    };
+    assert_eq!(told(far, &FLAT, 300, 4), (Refusal::Height, Some(Component::Y)));
+    assert_eq!(told(far, &FLAT, 1024, 4), (Refusal::Sample, Some(Component::Y)));
+    // flat luma of side 32 comes back exactly at QP 4, and not at 40; 7 comes before that, and 8 of chroma behind it
+    let luma = |qp| [Settings { qp, lambda: 0.0 }, dear, dear];
+    assert_eq!(told([dear; 3], &costs, 300, 5), (Refusal::Level, Some(Component::Y)));
+    assert_eq!(told(luma(4), &FLAT, 300, 5), (Refusal::Price, Some(Component::U)));
+    assert_eq!(told(luma(40), &FLAT, 300, 5), (Refusal::Height, Some(Component::Y)));
+    let refused = guarded_sub_block(&mut grained(300), &coarse(&FLAT), &none).unwrap_err();
+    assert_eq!(
+        refused.to_string(),
+        "refused with 15 in Y: no levels of this block bring every sample within the heights"
+    );
+}
+
+#[test]
+fn measuring_refuses_in_order() {
+    let told = |refusal| Err(Refused { refusal, component: None });
+    for side in [0, 6, 64, usize::MAX] {
+        assert_eq!(measure(&[], &[], side, 64), told(Refusal::Side));
+    }
+    assert_eq!(measure(&[], &[], 1, 64), told(Refusal::Qp));
+    for side in 1..=5 {
+        let n = 1 << (2 * side);
+        let (long, short) = (vec![7; n], vec![7; n - 1]);
+        assert_eq!(measure(&long, &short, side, 63), told(Refusal::Length));
+        assert_eq!(measure(&short, &long, side, 63), told(Refusal::Length));
+        assert!(measure(&long, &long, side, 63).is_ok());
+    }
+    // no sample is refused, and what lies behind a block is not looked at
+    let most = Extremes { darker: 0, lighter: 65535 };
+    assert_eq!(measure(&[-32768, -32768, -32768, -32768, 5], &[0, 0, 0, 0, 9], 1, 63).unwrap().lighter, 32768);
+    assert!(measure(&[-32768; 64], &[32767; 64], 3, 63).unwrap().lighter <= most.lighter);
 }

@@ -8,6 +8,16 @@
 //!
 //!     cargo test --test strokes -- --nocapture     prints the tables
 
+#[path = "../against/blocks.rs"]
+mod blocks;
+#[path = "../against/digits.rs"]
+mod digits;
+#[path = "../against/scan.rs"]
+mod scan;
+
+use blocks::Random;
+use digits::{Digit, Guess};
+use galemosu::{guarded_sub_block, measure, Extremes, Guarded, Heights, Refusal, SubBlock};
 use galemosu::{inverse, quantise, scale_back, transform, Coded, Component, Costs, Mode, Quantise, Settings};
 
 const PAGE: &str = include_str!("../../docs/ANSWER.md");
@@ -152,62 +162,14 @@ fn the_gap_of_a_six_by_qp() {
     }
 }
 
-// ---- digits drawn by chance, on a flat guess
-
-struct Random(u64);
-
-impl Random {
-    fn between(&mut self, low: i64, high: i64) -> i64 {
-        self.0 ^= self.0 << 13;
-        self.0 ^= self.0 >> 7;
-        self.0 ^= self.0 << 17;
-        low + ((self.0 >> 11) % (high - low + 1) as u64) as i64
-    }
-}
-
-/// A digit of seven bars, some 15 samples wide and 24 high, in an area of 32×32: where its ink is.
-fn digit(random: &mut Random) -> Vec<bool> {
-    // top, upper left, upper right, middle, lower left, lower right, bottom, of 0 to 9
-    const BARS: [u8; 10] =
-        [0b1110111, 0b0010010, 0b1011101, 0b1011011, 0b0111010, 0b1101011, 0b1101111, 0b1010010, 0b1111111, 0b1111011];
-    let bars = BARS[random.between(0, 9) as usize];
-    let (width, x, y) = (random.between(2, 4), random.between(4, 12), random.between(2, 6));
-    let (right, middle, bottom) = (x + random.between(11, 15), y + random.between(9, 13), y + random.between(20, 25));
-    let boxes = [
-        (x, y, right, y + width),
-        (x, y, x + width, middle),
-        (right - width, y, right, middle),
-        (x, middle, right, middle + width),
-        (x, middle, x + width, bottom),
-        (right - width, middle, right, bottom),
-        (x, bottom - width, right, bottom),
-    ];
-    let drawn: Vec<_> = (0..7).filter(|k| bars >> (6 - k) & 1 == 1).map(|k| boxes[k as usize]).collect();
-    let inked = |i: i64| drawn.iter().any(|(l, t, r, b)| (*l..*r).contains(&(i % 32)) && (*t..*b).contains(&(i / 32)));
-    (0..1024).map(inked).collect()
-}
-
-/// One block of a digit: its residuals, its contrast, and which samples are paper two or more from any ink of the area.
-fn a_block(random: &mut Random, log2: usize) -> (Vec<i16>, i64, Vec<bool>) {
-    let (side, ink, contrast) = (1i64 << log2, digit(random), random.between(600, 700));
-    let has_ink = |x: i64, y: i64| (0..32).contains(&x) && (0..32).contains(&y) && ink[(y * 32 + x) as usize];
-    let (left, top) = (random.between(0, 32 / side - 1) * side, random.between(0, 32 / side - 1) * side);
-    let places: Vec<(i64, i64)> = (0..side * side).map(|i| (left + i % side, top + i / side)).collect();
-    let far = |x: i64, y: i64| (-1..=1).all(|dx| (-1..=1).all(|dy| !has_ink(x + dx, y + dy)));
-    let paper: Vec<bool> = places.iter().map(|(x, y)| far(*x, *y)).collect();
-    if !places.iter().any(|(x, y)| has_ink(*x, *y)) || !paper.contains(&true) {
-        return a_block(random, log2);
-    }
-    let residual = |(x, y): &(i64, i64)| (if has_ink(*x, *y) { -contrast } else { 0 } + random.between(-12, 12)) as i16;
-    (places.iter().map(residual).collect(), contrast, paper)
-}
+// ---- digits drawn by chance, on an even guess
 
 /// How much the darkest point of paper darkens, in percent of the contrast: the mean and the most of 1,000 blocks; and
 /// the largest error of any sample.
-fn digits(log2: usize, qp: u32) -> (f64, f64, i64) {
-    let (mut random, mut dark, mut error) = (Random(20_261_115), vec![], 0);
+fn darkening(log2: usize, qp: u32) -> (f64, f64, i64) {
+    let (mut random, mut dark, mut error) = (Random::new(20_261_115), vec![], 0);
     for _ in 0..1000 {
-        let (residuals, contrast, paper) = a_block(&mut random, log2);
+        let Digit { residuals, contrast, paper } = Digit::drawn(&mut random, log2, Guess::Even);
         let errors = errors(&residuals, log2, qp, usual(qp));
         let darkest = errors.iter().zip(&paper).filter(|(_, paper)| **paper).map(|(e, _)| -e).max().unwrap();
         dark.push(100.0 * darkest.max(0) as f64 / contrast as f64);
@@ -220,6 +182,92 @@ fn digits(log2: usize, qp: u32) -> (f64, f64, i64) {
 fn paper_beside_digits_darkens() {
     for qp in [22, 34, 42, 51] {
         let cell = |(mean, most, error): (f64, f64, i64)| format!("{mean:.1} %, {most:.0} %, {error}");
-        on_the_page(&format!("| {qp} | {} | {} |", cell(digits(3, qp)), cell(digits(5, qp))));
+        on_the_page(&format!("| {qp} | {} | {} |", cell(darkening(3, qp)), cell(darkening(5, qp))));
+    }
+}
+
+// ---- the same, guarded
+
+/// Luma alone, of an intra-coded block in an intra slice, by the walk.
+fn guarded(residuals: &[i16], log2: usize, qp: u32, lambda: f64, height: u32) -> Result<(Vec<i16>, Guarded), Refusal> {
+    let mut buffer = residuals.to_vec();
+    buffer.resize(residuals.len() / 2 * 3, 0);
+    let mut call = SubBlock::new(log2, [Settings { qp, lambda }; 3], &COSTS);
+    (call.run, call.intra_slice, call.intra_coded) = (SubBlock::RUN_Y, true, true);
+    let [y, ..] =
+        guarded_sub_block(&mut buffer, &call, &[Heights::both(height); 3]).map_err(|refused| refused.refusal)?;
+    buffer.truncate(residuals.len());
+    // the extremes reported are those of what the formulas make of the levels, and those that `measure` finds
+    let errors = by_formula(&buffer, log2, qp).into_iter().zip(residuals).map(|(shown, seen)| shown - *seen as i64);
+    let (low, high) = errors.fold((0, 0), |(low, high), e| (e.min(low), e.max(high)));
+    assert_eq!(y.extremes, Extremes { darker: -low as u32, lighter: high as u32 });
+    assert_eq!(measure(residuals, &buffer, log2, qp), Ok(y.extremes));
+    assert!(y.extremes.darker.max(y.extremes.lighter) <= height);
+    Ok((buffer, y))
+}
+
+/// In bits, each cost being one: a 0 takes one, a level of 1 four, and one of a a + 3, with its flag; one is the
+/// block's.
+fn bits(levels: &[i16], log2: usize) -> u64 {
+    let places = scan::scan(1 << log2);
+    let size = places.iter().rposition(|p| levels[*p] != 0).map_or(0, |last| last + 1);
+    let bits = |level: i16| match level.unsigned_abs() as u64 {
+        0 => 1,
+        1 => 4,
+        a => a + 3,
+    };
+    1 + places[..size].iter().map(|p| bits(levels[*p])).sum::<u64>()
+}
+
+#[test]
+fn the_gap_of_a_guarded_six_stays_open() {
+    let six = six();
+    let (free, _) = coded(Mode::Walk, &six, 5, 40, usual(40));
+    for height in [64, 96, 128, 192] {
+        let line = match guarded(&six, 5, 40, usual(40), height) {
+            Ok((levels, y)) => {
+                let shown = decoded(&levels, 5, 40);
+                let gap = (0..1024).filter(|i| is_gap(*i)).map(|i| six[i] as i64 - shown[i]).max().unwrap();
+                let more = 100.0 * (bits(&levels, 5) as f64 / bits(&free, 5) as f64 - 1.0);
+                let Extremes { darker, lighter } = y.extremes;
+                format!("| {height} | {} | {darker} and {lighter} | {more:.0} % |", gap.max(0))
+            }
+            Err(refusal) => {
+                assert_eq!(refusal, Refusal::Height);
+                format!("| {height} | refused | | |")
+            }
+        };
+        on_the_page(&line);
+    }
+}
+
+/// The guess has an 8 where the camera sees the 6: its gap is inked there, and the residual is what wipes that out. What
+/// is left of the stroke at its darkest, at ten times an encoder's lambda.
+#[test]
+fn a_stroke_of_the_guess_is_wiped_out() {
+    let (qp, lambda) = (40, 10.0 * usual(40));
+    for depth in [100, 200, 300, 400] {
+        let residuals: Vec<i16> = (0..1024).map(|i| six()[i] + if is_gap(i) { depth } else { 0 }).collect();
+        let gap =
+            |shown: &[i64]| (0..1024).filter(|i| is_gap(*i)).map(|i| residuals[i] as i64 - shown[i]).max().unwrap();
+        let (levels, _) = coded(Mode::Walk, &residuals, 5, qp, lambda);
+        let free = gap(&decoded(&levels, 5, qp));
+        let (levels, _) = guarded(&residuals, 5, qp, lambda, 128).expect("a block that can be repaired");
+        on_the_page(&format!("| {depth} | {free} | {} |", gap(&decoded(&levels, 5, qp)).max(0)));
+    }
+}
+
+/// A bar of the guess, where the camera sees paper: the deepest part of it that is left, of all depths.
+#[test]
+fn no_bar_of_the_guess_is_left_beyond_the_height() {
+    for (qp, times) in [(34, 10.0), (42, 10.0), (46, 1.0), (51, 10.0)] {
+        for height in [64, 128] {
+            for depth in (1..=1023).step_by(7) {
+                let is_bar = |i: i16| (2..6).contains(&(i / 8)) && (3..5).contains(&(i % 8));
+                let residuals: Vec<i16> = (0..64).map(|i| if is_bar(i) { depth } else { 0 }).collect();
+                let answer = guarded(&residuals, 3, qp, times * usual(qp), height);
+                assert!(answer.is_ok_and(|_| true) || qp > 42, "QP {qp}, height {height}, depth {depth}");
+            }
+        }
     }
 }
