@@ -1238,7 +1238,7 @@ equal("7, 8 and 9 asked of a skipped block too", "there m is at most 1, lambda Ã
       meets_late_tests=lambda s, block: True)
 equal("-32768 let through where the block is skipped", "no QP skips a magnitude of 32768", quantise=lets_skipped_pass)
 equal("7 of Y, U, V, then 8, then 9", "of three components only luma of side 32 reaches 7, and none reaches 9",
-      ordered=lambda s, tests: sorted(tests, key=lambda t: t[0]))
+      ordered=lambda s, tests: sorted(tests, key=lambda t: t[0]), asked=staticmethod(lambda line: not is_guarded(line)))
 equal("three components: refusals 8 and 9 exchanged", "no residuals reach 9", **through("sub_block", exchange(8, 9)))
 equal("the source's cap on L", "32767 Ã— 26214 is below it",
       scaled=lambda s, c, qp: min(Paper.scaled(s, c, qp), 2 ** 31 - 1 - (1 << 13)))
