@@ -2,10 +2,10 @@
 refused before 15 must be these (tools/record).
 
 Decoded is by tools/viewer.py, which has no table in common with the model. The block that the mode writes is not worked
-out here: it is what the same request without heights is answered, which of the first mode the Rust that was ported says.
-m is the nearest whole number to |c|·q/2^b as a fraction, the coefficients are by viewer.py's matrices, and the candidates
-are made from the block by rows, a level at a time along the scan: what is put back once is never taken back. What
-candidates cost is the model's.
+out here: it is what the same request without heights is answered, which of the first mode the Rust that was ported
+says. m is the nearest whole number to |c|·q/2^b as a fraction, the coefficients are by viewer.py's matrices, and the
+candidates are made from the block by rows, a level at a time along the scan: what is put back once is never taken back.
+What candidates cost is the model's.
 """
 import math, struct
 from fractions import Fraction
@@ -70,7 +70,8 @@ def answer(request, unguarded):
         end = at + (1 << 2 * log2)
         told = (0, 0, 0, 0, samples[at:end])
         if run >> k & 1:
-            told = component(samples[at:end], free[at:end], log2, k, qp[k], d[k], flags, costs, heights[k], heights[3 + k])
+            told = component(
+                samples[at:end], free[at:end], log2, k, qp[k], d[k], flags, costs, heights[k], heights[3 + k])
             if told is None:
                 return b" ".join([b"refused 15 %d :" % k] + [b"%d" % v for v in samples])
         *numbers, after[at:end] = told

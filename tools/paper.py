@@ -1,6 +1,6 @@
-"""Document 01, document 02's viewer's half and second mode (its tickets 6 and 9), the guarded block and the line protocol
-in Python's whole numbers, sentence by sentence. It shares nothing with the crates, and stands in for nothing of theirs: recorded
-answers and the label's expected text are held against it.
+"""Document 01, document 02's viewer's half and second mode (its tickets 6 and 9), the guarded block and the line
+protocol in Python's whole numbers, sentence by sentence. It shares nothing with the crates, and stands in for nothing
+of theirs: recorded answers and the label's expected text are held against it.
 
     python3 tools/paper.py < requests     an answer line for each request line
 
@@ -613,7 +613,8 @@ class Paper:
         self.first_fault(self.three_tests(buffer, luma, run, qp, d, costs, late))
         answers, after = [], list(buffer)
         for k in (Y, U, V):
-            *answer, after[slice(*self.stretches(luma)[k])] = fits(k) if self.runs(run, k) else self.not_guarded(held(k))
+            told = fits(k) if self.runs(run, k) else self.not_guarded(held(k))
+            *answer, after[slice(*self.stretches(luma)[k])] = told
             answers.append(answer)
         return answers, after
 

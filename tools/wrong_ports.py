@@ -3,8 +3,9 @@
 A wrong port is tools/paper.py with one rule changed. Each answers the stored requests of `tq`; printed are how many
 answers it gets wrong (counted to 10, with --all to the end) of those made by hand and of those drawn by chance, and the
 request that catches it first. A port that is wrong in the second mode alone, in the viewer's half alone, or in the
-guarded call and measure alone, is asked requests of these alone. With WORDS, only ports whose names have one of them. Status 1 if a wrong port is
-caught by neither, or if the paper itself, or a port that can't differ, gets an answer wrong.
+guarded call and measure alone, is asked requests of these alone. With WORDS, only ports whose names have one of them.
+Status 1 if a wrong port is caught by neither, or if the paper itself, or a port that can't differ, gets an answer
+wrong.
 """
 import copy, fractions, functools, itertools, math, multiprocessing, os, struct, sys
 from paper import Block, Costs, Malformed, Paper, Refused, U, V, Words, Y, products_back
@@ -1195,7 +1196,8 @@ guards("put back where the level was dropped alone", put_back=lambda s, block, l
     m if i < p and a == 0 else a for i, (a, m) in enumerate(zip(levels, block.rounded))])
 guards("put back where the level was lowered alone", put_back=lambda s, block, levels, p: [
     m if i < p and a else a for i, (a, m) in enumerate(zip(levels, block.rounded))])
-guards("put back to m - 1", put_back=lambda s, block, levels, p: [max(m - 1, 0) for m in block.rounded[:p]] + levels[p:])
+guards("put back to m - 1",
+       put_back=lambda s, block, levels, p: [max(m - 1, 0) for m in block.rounded[:p]] + levels[p:])
 guards("a skipped block not put back", candidates=lambda s, block, levels: [levels] if block.skipped else
        Paper.candidates(s, block, levels))
 guards("the price of the unrepaired block", guarded=price_of_the_first)
@@ -1215,7 +1217,8 @@ guards("heights of U and V exchanged", heights_of=lambda s, h, k: Paper.heights_
 guards("extremes of U and V exchanged", guarded_sub_block=extremes_of([(0, 0), (2, 2), (1, 1)]))
 guards("luma's extremes for all", guarded_sub_block=extremes_of([(0, 0), (0, 0), (0, 0)]))
 guards("darker of V told of U", guarded_sub_block=extremes_of([(0, 0), (2, 1), (2, 2)]))
-guards("a component not run measured against 0", not_guarded=lambda s, r: (0, 0, max(0, *r), max(0, *[-v for v in r]), r))
+guards("a component not run measured against 0",
+       not_guarded=lambda s, r: (0, 0, max(0, *r), max(0, *[-v for v in r]), r))
 guards("the second mode not taken", written_by_mode=lambda s, block, least: Paper.written_by_mode(s, block, False))
 guards("always the second mode", written_by_mode=lambda s, block, least: Paper.written_by_mode(s, block, True))
 guards("measure: lists exchanged", measure=lambda s, r, l, log2, qp: Paper.measure(s, l, r, log2, qp))

@@ -1,14 +1,16 @@
 //! Times the calls beside the Rust's release build, the second mode beside the walk, the way back beside the way there,
-//! and the guarded call beside the unguarded one, in one process: nanoseconds a call, the best of many rounds, with what
-//! the copy of the input takes off; how much the second mode saves; and what heights cost in bits.
-//! `bench [transform|quantise|least|back|guarded]`.
+//! and the guarded call beside the unguarded one, in one process: nanoseconds a call, the best of many rounds, with
+//! what the copy of the input takes off; how much the second mode saves; and what heights cost in bits. With a
+//! word, only that table: transform, quantise, least, back or guarded.
 
+mod bits;
 mod blocks;
 mod digits;
 mod matrix;
 mod plain;
 mod recorder;
 mod scan;
+use bits::bits;
 use blocks::Random;
 use digits::{Digit, Guess};
 use galemosu::{guarded_sub_block, sub_block, Heights, Refusal, SubBlock};
@@ -300,7 +302,8 @@ fn with_chroma(mut luma: Vec<i16>) -> Vec<i16> {
 
 /// The guarded call where nothing is repaired, beside the unguarded one: luma alone, and all three components.
 fn looks() {
-    println!("\n| side | blocks | Y: unguarded ns | guarded ns | guarded / unguarded | Y, U, V: unguarded ns | guarded ns | guarded / unguarded |");
+    let three = ["unguarded ns | guarded ns | guarded / unguarded"; 2];
+    println!("\n| side | blocks | Y: {} | Y, U, V: {} |", three[0], three[1]);
     println!("|---|---|---|---|---|---|---|---|");
     for (log2, kind, blocks) in recorder::blocks() {
         let blocks: Vec<Vec<i16>> = blocks.into_iter().map(with_chroma).collect();
@@ -327,24 +330,11 @@ fn looks() {
 
 const ONE_BIT: Costs = Costs::equal(Costs::BIT);
 
-/// In bits, each cost being one: a 0 takes one, a level of 1 four, and one of a a + 3, with its flag; one is the
-/// block's.
-fn bits(levels: &[i16], log2: usize) -> f64 {
-    let places = scan::scan(1 << log2);
-    let size = places.iter().rposition(|p| levels[*p] != 0).map_or(0, |last| last + 1);
-    let bits = |level: i16| match level.unsigned_abs() as u32 {
-        0 => 1,
-        1 => 4,
-        a => a + 3,
-    };
-    f64::from(1 + places[..size].iter().map(|p| bits(levels[*p])).sum::<u32>())
-}
-
 /// How many blocks of digits each row of the heights is about.
 const HELD: usize = 300;
 
-/// What heights cost on digits, of luma at an encoder's lambda: bits over all blocks that are not refused, and time over
-/// all; and how many blocks are repaired and refused.
+/// What heights cost on digits, of luma at an encoder's lambda: bits over all blocks that are not refused, and time
+/// over all; and how many blocks are repaired and refused.
 fn heights() {
     let both = [64, 96, 128, 192];
     for word in ["more bits (repaired, refused)", "guarded / unguarded, in time"] {
@@ -378,8 +368,8 @@ fn costs_of(blocks: &[Vec<i16>], call: &SubBlock, height: Heights) -> String {
         match guarded_sub_block(&mut other, call, &[height; 3]) {
             Ok(_) => {
                 let n = block.len() / 3 * 2;
-                free += bits(&one[..n], call.log2_luma);
-                held += bits(&other[..n], call.log2_luma);
+                free += f64::from(bits(&one[..n], call.log2_luma));
+                held += f64::from(bits(&other[..n], call.log2_luma));
                 repaired += (one != other) as usize;
             }
             Err(why) => {

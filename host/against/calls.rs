@@ -243,8 +243,8 @@ pub fn sub_block(random: &mut Random, log2_luma: usize, run: u32, faulty: bool) 
     call
 }
 
-/// A guarded call of the given luma side and run bits, or a faulty one: any three-component call, or pictures at settings
-/// at which much is taken away; heights none, that some candidate reaches, or past all.
+/// A guarded call of the given luma side and run bits, or a faulty one: any three-component call, or pictures at
+/// settings at which much is taken away; heights none, that some candidate reaches, or past all.
 pub fn guarded(random: &mut Random, log2_luma: usize, run: u32, faulty: bool) -> Guarded {
     let mut call = sub_block(random, log2_luma, run, faulty);
     let coarse = !faulty && random.below(4) != 0;

@@ -1,7 +1,7 @@
-//! The guarded call and `measure`, for which there is no Rust, against their definition worked out here: candidates from
-//! document 01's levels (paper.rs) or the cheapest block (least.rs), decoded by ticket 6's formulas (formula.rs). An
-//! accepted call must leave the first candidate that fits, with its count, its price and its exact extremes, and what is
-//! not run and the surplus untouched; a refused one must be left as it was.
+//! The guarded call and `measure`, for which there is no Rust, against their definition worked out here: candidates
+//! from document 01's levels (paper.rs) or the cheapest block (least.rs), decoded by ticket 6's formulas (formula.rs).
+//! An accepted call must leave the first candidate that fits, with its count, its price and its exact extremes, and
+//! what is not run and the surplus untouched; a refused one must be left as it was.
 
 use crate::blocks::Random;
 use crate::calls::{self, Guarded, Measure};

@@ -186,8 +186,8 @@ uint32_t galemosu_guarded_sub_block(int16_t *buffer, size_t len, size_t log2_lum
 
 /* How far what a viewer makes of the levels of a square block of side 2^log2_side, of any origin, lies from the
  * residuals at most: answer is how much darker a sample gets, and how much lighter; both are exact, and 0 where the
- * call is refused. Nothing else is written. No bit of flags means anything yet: pass 0. Tests 1, 2 and 5 (of either), in
- * this order. No sample is refused. */
+ * call is refused. Nothing else is written. No bit of flags means anything yet: pass 0. Tests 1, 2 and 5 (of either),
+ * in this order. No sample is refused. */
 uint32_t galemosu_measure(const int16_t *residuals, size_t residuals_len, const int16_t *levels, size_t levels_len,
     size_t log2_side, uint32_t qp, uint32_t flags, uint64_t answer[2]);
 

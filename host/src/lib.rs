@@ -4,9 +4,9 @@
 //! The recorder's half: [`transform`] turns a block of residuals into coefficients, [`quantise`] turns those of a
 //! square block into levels, and [`sub_block`] does both for the three components of a block. The viewer's half:
 //! [`scale_back`] turns the levels of a square block into coefficients, and [`inverse`] turns coefficients into
-//! residuals. Both at once: [`guarded_sub_block`] is [`sub_block`] held to heights, so that no sample is shown darker or
-//! lighter than the camera saw it by more than the host allows, and [`measure`] says how far the samples of any levels
-//! are off. All work on lent slices of any length, in place but for `measure`, which writes nothing, and look at
+//! residuals. Both at once: [`guarded_sub_block`] is [`sub_block`] held to heights, so that no sample is shown darker
+//! or lighter than the camera saw it by more than the host allows, and [`measure`] says how far the samples of any
+//! levels are off. All work on lent slices of any length, in place but for `measure`, which writes nothing, and look at
 //! everything themselves: every call comes back, for all settings, lengths and samples. A refused call says why, as a
 //! [`Refused`] or a [`Refusal`], and leaves the lent block as it was.
 //!
@@ -32,9 +32,9 @@
 //!
 //! For accepted calls: no level above its rounded magnitude, no sign changed, nothing added, the price reported that of
 //! the block written. A level within its bound can still leave a stroke that only the guess had, or darken a gap: how
-//! much of that a viewer can see of [`sub_block`] is measured, not proved, in `docs/ANSWER.md`. Of [`guarded_sub_block`]
-//! it is proved how far a sample that is shown can be off: by the heights, and no more, before any filter. The Rust of
-//! this crate is not proved.
+//! much of that a viewer can see of [`sub_block`] is measured, not proved, in `docs/ANSWER.md`. Of
+//! [`guarded_sub_block`] it is proved how far a sample that is shown can be off: by the heights, and no more, before
+//! any filter. The Rust of this crate is not proved.
 //!
 //! Of the way back it is proved that the two calls give the numbers of their definition, the formulas that stand at
 //! [`scale_back`] and [`inverse`]: document 02's, as the standard's own text, ISO/IEC 23094-1, was not at hand. They
@@ -415,9 +415,9 @@ impl Heights {
     }
 }
 
-/// How far the samples of a block are off at most, exactly. A residual is the camera's sample less a guess, and a viewer
-/// adds what it decodes to the same guess: so these are distances of what is shown from what the camera saw, whatever
-/// the guess was.
+/// How far the samples of a block are off at most, exactly. A residual is the camera's sample less a guess, and a
+/// viewer adds what it decodes to the same guess: so these are distances of what is shown from what the camera saw,
+/// whatever the guess was.
 #[derive(Clone, Copy, Debug, PartialEq, Eq, Hash)]
 pub struct Extremes {
     /// How much darker than the camera saw it a sample is shown at most.
@@ -441,14 +441,14 @@ pub struct Guarded {
 /// The library decodes each block that it codes, as a viewer does, and looks at every sample. Where one is off by more
 /// than its height, the levels of the first place in scan order are put back to their rounded magnitudes, then of the
 /// first 2, 4, 8 and so on up to all, until every sample is within; the first block that is within is written. Where
-/// even plain rounding at this QP is not, or costs 2^62 or more, the call is refused with `Height` of the component, and
-/// nothing is written: code the block at a lower QP, or send it another way. `Height` comes behind `Distortion` of the
-/// same component; all other refusals are those of [`sub_block`], in their order.
+/// even plain rounding at this QP is not, or costs 2^62 or more, the call is refused with `Height` of the component,
+/// and nothing is written: code the block at a lower QP, or send it another way. `Height` comes behind `Distortion` of
+/// the same component; all other refusals are those of [`sub_block`], in their order.
 ///
-/// With the camera's sample between 0 and 1023 and what is shown clipped to that range, for any guess: camera -
-/// darker ≤ shown ≤ camera + lighter. Where paper is at least W, ink at most W - C, and the two heights add up to less
-/// than C, one threshold tells paper from ink in what is shown. All this is proved; a viewer that does other arithmetic,
-/// has another guess, or filters behind it is not spoken of.
+/// With the camera's sample between 0 and 1023 and what is shown clipped to that range, for any guess: camera - darker
+/// ≤ shown ≤ camera + lighter. Where paper is at least W, ink at most W - C, and the two heights add up to less than C,
+/// one threshold tells paper from ink in what is shown. All this is proved; a viewer that does other arithmetic, has
+/// another guess, or filters behind it is not spoken of.
 ///
 /// ```
 /// use galemosu::{guarded_sub_block, measure, Costs, Extremes, Heights, Settings, SubBlock};
@@ -511,8 +511,8 @@ pub fn guarded_sub_block(buffer: &mut [i16], call: &SubBlock, heights: &[Heights
 /// ```
 pub fn measure(residuals: &[i16], levels: &[i16], log2_side: usize, qp: u32) -> Result<Extremes, Refused> {
     let mut answer = [0u64; 2];
-    // SAFETY: both are lent slices, whose pointers are not null and are aligned; the answer has the length that the call
-    // writes, and outlives it.
+    // SAFETY: both are lent slices, whose pointers are not null and are aligned; the answer has the length that the
+    // call writes, and outlives it.
     let number = unsafe {
         raw::galemosu_measure(
             residuals.as_ptr(),

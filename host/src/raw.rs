@@ -6,9 +6,9 @@
 //! Of every function but [`galemosu_version`]: pointers are not null and are aligned, also at length 0. `block` or
 //! `buffer` is `len` samples, `residuals` and `levels` are as many samples as the number behind each says, `costs` is a
 //! [`Costs`], `qp` and `lambda` are three numbers each, `heights` six, `answer` is three numbers of
-//! [`galemosu_quantise_y`] and its kind, seven of [`galemosu_sub_block`], thirteen of [`galemosu_guarded_sub_block`], two
-//! of [`galemosu_measure`]. What is written (`block` or `buffer`, `answer`) overlaps nothing else that is lent. Nothing
-//! is asked of what the numbers are.
+//! [`galemosu_quantise_y`] and its kind, seven of [`galemosu_sub_block`], thirteen of [`galemosu_guarded_sub_block`],
+//! two of [`galemosu_measure`]. What is written (`block` or `buffer`, `answer`) overlaps nothing else that is lent.
+//! Nothing is asked of what the numbers are.
 
 use crate::Costs;
 
@@ -71,8 +71,8 @@ extern "C" {
         answer: *mut u64,
     ) -> u32;
 
-    /// [`galemosu_sub_block`], held to `heights`: how much darker Y, U and V may get, then how much lighter. `answer` is
-    /// component, counts, prices, and how much darker and how much lighter they got, each of Y, U, V.
+    /// [`galemosu_sub_block`], held to `heights`: how much darker Y, U and V may get, then how much lighter. `answer`
+    /// is component, counts, prices, and how much darker and how much lighter they got, each of Y, U, V.
     pub fn galemosu_guarded_sub_block(
         buffer: *mut i16,
         len: usize,

@@ -8,6 +8,8 @@
 //!
 //!     cargo test --test strokes -- --nocapture     prints the tables
 
+#[path = "../against/bits.rs"]
+mod bits;
 #[path = "../against/blocks.rs"]
 mod blocks;
 #[path = "../against/digits.rs"]
@@ -15,6 +17,7 @@ mod digits;
 #[path = "../against/scan.rs"]
 mod scan;
 
+use bits::bits;
 use blocks::Random;
 use digits::{Digit, Guess};
 use galemosu::{guarded_sub_block, measure, Extremes, Guarded, Heights, Refusal, SubBlock};
@@ -206,19 +209,6 @@ fn guarded(residuals: &[i16], log2: usize, qp: u32, lambda: f64, height: u32) ->
     Ok((buffer, y))
 }
 
-/// In bits, each cost being one: a 0 takes one, a level of 1 four, and one of a a + 3, with its flag; one is the
-/// block's.
-fn bits(levels: &[i16], log2: usize) -> u64 {
-    let places = scan::scan(1 << log2);
-    let size = places.iter().rposition(|p| levels[*p] != 0).map_or(0, |last| last + 1);
-    let bits = |level: i16| match level.unsigned_abs() as u64 {
-        0 => 1,
-        1 => 4,
-        a => a + 3,
-    };
-    1 + places[..size].iter().map(|p| bits(levels[*p])).sum::<u64>()
-}
-
 #[test]
 fn the_gap_of_a_guarded_six_stays_open() {
     let six = six();
@@ -228,7 +218,7 @@ fn the_gap_of_a_guarded_six_stays_open() {
             Ok((levels, y)) => {
                 let shown = decoded(&levels, 5, 40);
                 let gap = (0..1024).filter(|i| is_gap(*i)).map(|i| six[i] as i64 - shown[i]).max().unwrap();
-                let more = 100.0 * (bits(&levels, 5) as f64 / bits(&free, 5) as f64 - 1.0);
+                let more = 100.0 * (f64::from(bits(&levels, 5)) / f64::from(bits(&free, 5)) - 1.0);
                 let Extremes { darker, lighter } = y.extremes;
                 format!("| {height} | {} | {darker} and {lighter} | {more:.0} % |", gap.max(0))
             }
@@ -241,8 +231,8 @@ fn the_gap_of_a_guarded_six_stays_open() {
     }
 }
 
-/// The guess has an 8 where the camera sees the 6: its gap is inked there, and the residual is what wipes that out. What
-/// is left of the stroke at its darkest, at ten times an encoder's lambda.
+/// The guess has an 8 where the camera sees the 6: its gap is inked there, and the residual is what wipes that out.
+/// What is left of the stroke at its darkest, at ten times an encoder's lambda.
 #[test]
 fn a_stroke_of_the_guess_is_wiped_out() {
     let (qp, lambda) = (40, 10.0 * usual(40));

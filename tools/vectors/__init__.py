@@ -1,5 +1,5 @@
-"""The requests of the recorded test, crates/tq/stdin: those made by hand (by_hand.py, guarded.py), those drawn by chance
-(by_chance.py, guarded.py), and a last line, behind which there is no newline. All are written with lines.py."""
+"""The requests of the recorded test, crates/tq/stdin: those made by hand (by_hand.py, guarded.py), those drawn by
+chance (by_chance.py, guarded.py), and a last line, behind which there is no newline. All are written with lines.py."""
 from vectors import by_chance, by_hand, guarded
 
 BY_CHANCE = "by chance"

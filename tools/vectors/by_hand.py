@@ -639,7 +639,8 @@ FIELDS = {
     b"subblock": ["log2", "u32"] + ["u32", "lambda"] * 3 + ["flags"] + ["cost"] * 28 + ["n"] + ["sample"] * 24,
     b"scaleback": ["log2", "u32", "n"] + ["sample"] * 4,
     b"inverse": ["log2"] * 2 + ["n"] + ["sample"] * 4,
-    b"guarded": ["log2", "u32"] + ["u32", "lambda"] * 3 + ["flags"] + ["u32"] * 6 + ["cost"] * 28 + ["n"] + ["sample"] * 24,
+    b"guarded": (["log2", "u32"] + ["u32", "lambda"] * 3 + ["flags"] + ["u32"] * 6 + ["cost"] * 28 + ["n"]
+                 + ["sample"] * 24),
     b"measure": ["log2", "u32", "flags", "log2", "n"] + ["sample"] * 8,
 }
 # past each type, first one whose low bits would pass

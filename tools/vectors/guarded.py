@@ -88,7 +88,8 @@ def extremes_of_each_component():
     """Blocks whose extremes are all different: an answer or a height of another component shows."""
     block = patterned(64, 3, 500) + patterned(16, 5, 250) + patterned(16, 7, 120)
     for qp in (34, 40, 46, 52):
-        for more in ((0, 0, 0, 0, 0, 0), (9, 0, 0, 0, 0, 0), (0, 0, 9, 0, 0, 0), (0, 0, 0, 0, 9, 0), (50, 40, 30, 20, 10, 5)):
+        for more in ((0, 0, 0, 0, 0, 0), (9, 0, 0, 0, 0, 0), (0, 0, 9, 0, 0, 0), (0, 0, 0, 0, 9, 0),
+                     (50, 40, 30, 20, 10, 5)):
             at = (170, 110, 60, 180, 120, 70)
             line = guarded(block, 3, qp=(qp, qp - 3, qp - 6), d=(400.0, 300.0, 200.0), costs=MIXED,
                            heights=tuple(a - m for a, m in zip(at, more)))
@@ -98,7 +99,8 @@ def extremes_of_each_component():
 def what_is_put_back():
     """Places in scan order, which is not the block's: strokes along rows, columns and diagonals, of each side, at
     heights that fall until none fits."""
-    for log2, ladder in ((2, (250, 180, 120, 80, 50, 25)), (3, (250, 180, 120, 80, 50)), (4, (200, 120, 80)), (5, (160, 90))):
+    ladders = {2: (250, 180, 120, 80, 50, 25), 3: (250, 180, 120, 80, 50), 4: (200, 120, 80), 5: (160, 90)}
+    for log2, ladder in ladders.items():
         side = 1 << log2
         for stroke in (lambda x, y: x == 1, lambda x, y: y == side - 1, lambda x, y: (x + 2 * y) % 5 == 0):
             luma = [420 if stroke(i % side, i // side) else -35 for i in range(side * side)]
@@ -162,7 +164,8 @@ def order_of_the_guarded_call():
         for h in (none, heights()):
             yield guarded(flat, log2, qp=only(k, 0, 50), d=only(k, 8192.0, USUAL), heights=h)
     # 7 of luma of side 32, alone and with 15 of each
-    yield from (guarded([1000 + v for v in patterned(1024, 3, 23)] + patterned(512, 5, 900), 5, run, qp=(0, 50, 50), heights=none) for run in (1, 3, 7, 6, 4))
+    bright = [1000 + v for v in patterned(1024, 3, 23)] + patterned(512, 5, 900)
+    yield from (guarded(bright, 5, run, qp=(0, 50, 50), heights=none) for run in (1, 3, 7, 6, 4))
     faults = [dict(log2=1), dict(log2=6), dict(qp=(64, 50, 50)), dict(qp=(50, 50, 64)), dict(d=(NAN, 1.0, 1.0)),
               dict(d=(1.0, 1.0, -1.0)), dict(costs=PAST)]
     for fault in faults:
@@ -178,7 +181,7 @@ def what_the_guarded_call_leaves():
     """A component that is not run keeps its residuals and answers 0 four times; the surplus stays; a refusal of V
     leaves Y and U as they were."""
     for run in range(8):
-        yield guarded(PICTURE + [7, -32768, 32767], run=run, heights=(40, 40, 40, 40, 40, 40), qp=(34, 35, 36), costs=MIXED)
+        yield guarded(PICTURE + [7, -32768, 32767], run=run, heights=heights(40, 40), qp=(34, 35, 36), costs=MIXED)
         yield guarded(PICTURE, run=run, heights=(60, 60, 0, 60, 60, 0), qp=(40, 40, 40))
 
 
@@ -186,8 +189,8 @@ def malformed_guarded():
     """The same as of the other verbs; words that look like the two; other verbs' fields."""
     yield from list(spaces(GOOD_GUARDED))[::2]
     yield from like_a_verb(GOOD_GUARDED)
-    for verb in (b"guard", b"guarded-", b"guarded_sub_block", b"guardedsubblock", b"guarded subblock", b"subblock-guarded",
-                 b"measured", b"measures", b"meas", b"guardian"):
+    for verb in (b"guard", b"guarded-", b"guarded_sub_block", b"guardedsubblock", b"guarded subblock",
+                 b"subblock-guarded", b"measured", b"measures", b"meas", b"guardian"):
         yield replaced(GOOD_GUARDED[b"measure" if verb.startswith(b"m") else b"guarded"], 0, verb)
     yield from list(like_a_number(GOOD_GUARDED))[::3]
     yield from list(lambdas_in_hex(GOOD_GUARDED))[::5]
@@ -204,7 +207,8 @@ def malformed_guarded():
 
 SECTIONS = [
     numbers_of_measure, refusals_of_measure, heights_and_their_neighbours, extremes_of_each_component, what_is_put_back,
-    skipped_blocks_put_back, dear_candidates, dearer_than_a_later_one, order_of_the_guarded_call, what_the_guarded_call_leaves, malformed_guarded,
+    skipped_blocks_put_back, dear_candidates, dearer_than_a_later_one, order_of_the_guarded_call,
+    what_the_guarded_call_leaves, malformed_guarded,
 ]
 
 
