@@ -12,7 +12,9 @@ use lib.Seq.{getD-take, take-take}
 use Rattle.replies.specs.declared.Reply.{Reply}
 use Rattle.verbs.specs.declared.Verb.{Verb}
 use Rattle.verbs.specs.declared.Verb.the-variants.{Transform, Quantise, SubBlock, ScaleBack, Inverse, Guarded, Measure}
-use Rattle.requests.specs.Request.{kindsOf, Limited}
+use Rattle.verbs.specs.declared.Verb.the-variants.{Write, Read}
+use Rattle.replies.specs.Reply.{listIf}
+use Rattle.requests.specs.Request.{kindsOf, hasList, Limited}
 use Rattle.heights.specs.Call as heights
 use Rattle.calls.specs.Calls.{costsFrom, guardedBy, guardedText, measureBy, measureText, answered}
 use Rattle.calls.specs.Inner.Replied.{Short, ShortHeights, Replied}
@@ -50,11 +52,11 @@ measure-own : (f : List ℕ) (samples : List ℤ) → measureBy (take 4 f) sampl
 measure-own f samples =
     rw (getD-take 4 f 0 0 (omega arith), getD-take 4 f 1 0 (omega arith), getD-take 4 f 3 0 (omega arith))
 
-by-own-fields : (verb : Verb) (f : List ℕ) (samples : List ℤ)
-    → answered verb (take (length (kindsOf verb)) f) samples ≡ answered verb f samples
+by-own-fields : (verb : Verb) (f list : List ℕ) (samples : List ℤ)
+    → answered verb (take (length (kindsOf verb)) f) list samples ≡ answered verb f list samples
 unfolding answered
-by-own-fields Transform f samples = rw (getD-take 2 f 0 0 (omega arith), getD-take 2 f 1 0 (omega arith))
-by-own-fields Quantise f samples =
+by-own-fields Transform f list samples = rw (getD-take 2 f 0 0 (omega arith), getD-take 2 f 1 0 (omega arith))
+by-own-fields Quantise f list samples =
     let field : (i : ℕ) → i < 33 → getD (take 33 f) i 0 ≡ getD f i 0 = λ i h. getD-take 33 f i 0 h in
     rw (
       field 0 (omega arith),
@@ -64,7 +66,7 @@ by-own-fields Quantise f samples =
       field 4 (omega arith),
       costs-in-front 5 f,
     )
-by-own-fields SubBlock f samples =
+by-own-fields SubBlock f list samples =
     let field : (i : ℕ) → i < 37 → getD (take 37 f) i 0 ≡ getD f i 0 = λ i h. getD-take 37 f i 0 h in
     rw (
       field 0 (omega arith),
@@ -78,17 +80,20 @@ by-own-fields SubBlock f samples =
       field 8 (omega arith),
       costs-in-front 9 f,
     )
-by-own-fields ScaleBack f samples = rw (getD-take 2 f 0 0 (omega arith), getD-take 2 f 1 0 (omega arith))
-by-own-fields Inverse f samples = rw (getD-take 2 f 0 0 (omega arith), getD-take 2 f 1 0 (omega arith))
-by-own-fields Guarded f samples = ap guardedText (guarded-own f samples)
-by-own-fields Measure f samples = ap (λ (m : heights.Measure). measureText m samples) (measure-own f samples)
+by-own-fields ScaleBack f list samples = rw (getD-take 2 f 0 0 (omega arith), getD-take 2 f 1 0 (omega arith))
+by-own-fields Inverse f list samples = rw (getD-take 2 f 0 0 (omega arith), getD-take 2 f 1 0 (omega arith))
+by-own-fields Guarded f list samples = ap guardedText (guarded-own f samples)
+by-own-fields Measure f list samples = ap (λ (m : heights.Measure). measureText m samples) (measure-own f samples)
+by-own-fields Write f list samples = rw (getD-take 1 f 0 0 (omega arith))
+by-own-fields Read f list samples = rw (getD-take 1 f 0 0 (omega arith))
 
 -- where the verb is known
 module _ (v : Verb) (f : List ℕ) where
-  pub by-verb : (w : Verb) → v ≡ w → (samples before : List ℤ) (r : Reply) (after : List ℤ)
-      → Replied (answered w f samples) before r after
-      → Replied (answered v (take (length (kindsOf v)) f) samples) before r after
-  by-verb w e samples before r after h = rw (e, by-own-fields w f samples) h
+  pub by-verb : (w : Verb) → v ≡ w → (list : List ℕ) (samples before : List ℤ) (r : Reply) (left : List ℕ)
+      (after : List ℤ)
+      → Replied (answered w f list samples) before r (listIf (hasList w) left) after
+      → Replied (answered v (take (length (kindsOf v)) f) list samples) before r (listIf (hasList v) left) after
+  by-verb w e list samples before r left after h = rw (e, by-own-fields w f list samples) h
 
   -- the fields of kind `i`
   pub quantise-short : v ≡ Quantise → Limited (kindsOf v) f → Short f 2 × Short f 4

@@ -1,7 +1,8 @@
 -- What a request is answered by: the call that its fields ask for, made by the numbers that cross to C (`surface`), and
--- the answer line that shows what the call left: its result, its answer and its buffer.
+-- the answer line that shows what the call left: its result, its answer, its list, if it has one, and its buffer.
 use mathlib.Core.Bool.{true, false, cond}
 use mathlib.Core.List.{List, [], _∷_}
+use mathlib.Core.Option.{Option, none, some}
 use Prim.Native.Nat.{ℕ, _+_}
 use lib.Dec.{eqb}
 use lib.Ieee.{Float, binary64, ofBits}
@@ -10,6 +11,7 @@ use lib.ListN.{getD, take, drop}
 use Rattle.refusals.specs.declared.Component.{Component}
 use Rattle.refusals.specs.declared.Component.the-variants.{Y, U, «V»}
 use Rattle.refusals.specs.Faults.{Outcome}
+use Rattle.runs.specs.Call.{Write, writing, writeAnswer, writeList, Read, reading, readVerdict, readBuffer}
 use Rattle.transform.specs.Call.{Trans, transVerdict, transBuffer}
 use Rattle.transform.specs.Call as trans
 use Rattle.decoding.specs.Call.{ScaleBack, levelsLent, scaleVerdict, scaleBuffer}
@@ -20,7 +22,7 @@ use Rattle.components.specs.Call.{SubBlock, subBlockAnswer, subBlockBuffer}
 use Rattle.heights.specs.Call.{Measure, lent, measureAnswer}
 use Rattle.guarding.specs.Call.{GuardedBlock, guardedAnswer, guardedBuffer}
 use Rattle.surface.specs.Surface.{resultOf, quantAsked, quantWritten, threeAsked, threeWritten}
-use Rattle.surface.specs.Surface.{guardedAsked, guardedWritten, measureWritten}
+use Rattle.surface.specs.Surface.{guardedAsked, guardedWritten, measureWritten, writeWritten}
 use Rattle.verbs.specs.declared.Verb.{Verb}
 use Rattle.verbs.specs.declared.Verb.the-variants as verbs
 use Rattle.replies.specs.Reply.{replyText}
@@ -78,37 +80,44 @@ guardedBy f samples =
 abbrev pub measureBy : List ℕ → List ℤ → Measure
 measureBy f samples = lent (take (getD f 3 0) samples) (drop (getD f 3 0) samples) (getD f 0 0) (getD f 1 0)
 
+-- LOG2, and a list: one to fill with the samples' symbols, or one whose symbols go into the samples
+abbrev pub writeBy : (f list : List ℕ) → List ℤ → Write
+writeBy f list samples = writing samples (getD f 0 0) list
+
+abbrev pub readBy : (f list : List ℕ) → List ℤ → Read
+readBy f list samples = reading list samples (getD f 0 0)
+
 -- ---- the answer line
 -- where the result is 0, `accepted` and numbers of the answer; else `refused`, the result and the component
-abbrev pub shown : (result component : ℕ) → (numbers : List ℕ) → List ℤ → List ℕ
-shown result component numbers buffer =
-    cond (eqb result 0) (replyText true numbers buffer) (replyText false (result ∷ component ∷ []) buffer)
+abbrev pub shown : (result component : ℕ) → (numbers : List ℕ) → (list : Option (List ℕ)) → List ℤ → List ℕ
+shown result component numbers list buffer =
+    cond (eqb result 0) (replyText true numbers list buffer) (replyText false (result ∷ component ∷ []) list buffer)
 
 -- no number where a call answers a verdict alone
-abbrev pub verdictText : Outcome Unit → List ℤ → List ℕ
-verdictText verdict buffer = shown (resultOf verdict) 0 [] buffer
+abbrev pub verdictText : Outcome Unit → (list : Option (List ℕ)) → List ℤ → List ℕ
+verdictText verdict list buffer = shown (resultOf verdict) 0 [] list buffer
 
 abbrev pub transText : Trans → List ℕ
-transText t = verdictText (transVerdict t) (transBuffer t)
+transText t = verdictText (transVerdict t) none (transBuffer t)
 
 abbrev pub scaleText : ScaleBack → List ℕ
-scaleText s = verdictText (scaleVerdict s) (scaleBuffer s)
+scaleText s = verdictText (scaleVerdict s) none (scaleBuffer s)
 
 abbrev pub inverseText : Inverse → List ℕ
-inverseText t = verdictText (inverseVerdict t) (inverseBuffer t)
+inverseText t = verdictText (inverseVerdict t) none (inverseBuffer t)
 
 -- the count and the price
 abbrev pub quantText : Quant → List ℕ
 quantText c =
     let w = quantWritten (quantAnswer c) in
-    shown (resultOf (quantAnswer c)) (getD w 0 0) (getD w 1 0 ∷ getD w 2 0 ∷ []) (quantBuffer c)
+    shown (resultOf (quantAnswer c)) (getD w 0 0) (getD w 1 0 ∷ getD w 2 0 ∷ []) none (quantBuffer c)
 
 -- the count and the price of Y, of U, of V
 abbrev pub threeText : SubBlock → List ℕ
 threeText s =
     let w = threeWritten (subBlockAnswer s) in
     shown (resultOf (subBlockAnswer s)) (getD w 0 0)
-    (getD w 1 0 ∷ getD w 4 0 ∷ getD w 2 0 ∷ getD w 5 0 ∷ getD w 3 0 ∷ getD w 6 0 ∷ []) (subBlockBuffer s)
+    (getD w 1 0 ∷ getD w 4 0 ∷ getD w 2 0 ∷ getD w 5 0 ∷ getD w 3 0 ∷ getD w 6 0 ∷ []) none (subBlockBuffer s)
 
 -- the count and the price of Y, of U, of V, how much darker each gets, how much lighter
 abbrev pub guardedNumbers : List ℕ → List ℕ
@@ -119,21 +128,33 @@ guardedNumbers w =
 abbrev pub guardedText : GuardedBlock → List ℕ
 guardedText g =
     let w = guardedWritten (guardedAnswer g) in
-    shown (resultOf (guardedAnswer g)) (getD w 0 0) (guardedNumbers w) (guardedBuffer g)
+    shown (resultOf (guardedAnswer g)) (getD w 0 0) (guardedNumbers w) none (guardedBuffer g)
 
 -- how much darker and how much lighter, and the samples as they were
 abbrev pub measureText : Measure → List ℤ → List ℕ
 measureText m samples =
     let w = measureWritten (measureAnswer m) in
-    shown (resultOf (measureAnswer m)) 0 (getD w 0 0 ∷ getD w 1 0 ∷ []) samples
+    shown (resultOf (measureAnswer m)) 0 (getD w 0 0 ∷ getD w 1 0 ∷ []) none samples
 
--- what a verb with its fields and samples is answered by
-unfoldable pub answered : Verb → List ℕ → List ℤ → List ℕ
+-- how many symbols were written, the list as it was left, and the samples as they were
+abbrev pub writeText : Write → List ℕ
+writeText w =
+    let n = writeWritten (writeAnswer w) in
+    shown (resultOf (writeAnswer w)) 0 (getD n 0 0 ∷ []) (some (writeList w)) (w .buffer)
+
+-- the list as it was
+abbrev pub readText : Read → List ℕ
+readText r = verdictText (readVerdict r) (some (r .list)) (readBuffer r)
+
+-- what a verb with its fields, its list and its samples is answered by
+unfoldable pub answered : Verb → (f list : List ℕ) → List ℤ → List ℕ
 unfolding replyText
-answered verbs.Transform f samples = transText (transBy f samples)
-answered verbs.Quantise f samples = quantText (quantBy f samples)
-answered verbs.SubBlock f samples = threeText (threeBy f samples)
-answered verbs.ScaleBack f samples = scaleText (scaleBy f samples)
-answered verbs.Inverse f samples = inverseText (inverseBy f samples)
-answered verbs.Guarded f samples = guardedText (guardedBy f samples)
-answered verbs.Measure f samples = measureText (measureBy f samples) samples
+answered verbs.Transform f list samples = transText (transBy f samples)
+answered verbs.Quantise f list samples = quantText (quantBy f samples)
+answered verbs.SubBlock f list samples = threeText (threeBy f samples)
+answered verbs.ScaleBack f list samples = scaleText (scaleBy f samples)
+answered verbs.Inverse f list samples = inverseText (inverseBy f samples)
+answered verbs.Guarded f list samples = guardedText (guardedBy f samples)
+answered verbs.Measure f list samples = measureText (measureBy f samples) samples
+answered verbs.Write f list samples = writeText (writeBy f list samples)
+answered verbs.Read f list samples = readText (readBy f list samples)

@@ -6,20 +6,25 @@ use galemosu::galemosu_measure;
 use galemosu::galemosu_quantise_u;
 use galemosu::galemosu_quantise_v;
 use galemosu::galemosu_quantise_y;
+use galemosu::galemosu_read_symbols;
 use galemosu::galemosu_scale_back;
 use galemosu::galemosu_sub_block;
 use galemosu::galemosu_transform;
+use galemosu::galemosu_write_symbols;
 use numerals::number::double_of;
 use replies::Reply;
 use verbs::Verb;
+ghost use mathlib.Core.Option.{none, some};
 ghost use mathlib.Core.Path.{_≡_};
 ghost use Prim.Native.Nat.{_+_, _≤_};
 ghost use lib.ListN.{length, getD, take, drop};
-ghost use Rattle.requests.specs.Request.{kindsOf, Limited};
+ghost use Rattle.replies.specs.Reply.{listIf};
+ghost use Rattle.requests.specs.Request.{kindsOf, hasList, Limited};
 ghost use Rattle.surface.specs.Surface.{quantAsked, QuantLeft};
 ghost use Rattle.calls.specs.Calls.{componentBy, transBy, transText, quantBy, quantText, qpsBy, lambdasBy};
 ghost use Rattle.calls.specs.Calls.{threeBy, threeText, scaleBy, scaleText, inverseBy, inverseText, answered};
 ghost use Rattle.calls.specs.Calls.{allowedBy, guardedBy, guardedNumbers, guardedText, measureBy, measureText};
+ghost use Rattle.calls.specs.Calls.{writeBy, writeText, readBy, readText};
 ghost use Rattle.calls.specs.Inner.Replied.{Short, ShortHeights, Parted, replyBy, Replied};
 
 fn copy(from: &[u64], to: &mut [u64])
@@ -65,7 +70,7 @@ fn reply_by(result: u32, component: u64, count: usize, numbers: [u64; 12]) -> Re
 fn call_transform(room: &mut [i16], fields: &[u64]) -> Reply
     requires { ⌜ length (now fields) ≡ 48 ⌝ }
     ensures { λ r. ⌜ Replied (transText (transBy (now (fields .entry)) (now (room .entry))))
-        (now (room .entry)) r (now (room .exit)) ⌝ }
+        (now (room .entry)) r none (now (room .exit)) ⌝ }
 {
     let result = galemosu_transform(room, fields[0] as usize, fields[1] as usize);
     reply_by(result, 0, 0, [0; 12])
@@ -98,7 +103,7 @@ fn quantise_by(
 fn call_quantise(room: &mut [i16], fields: &[u64]) -> Reply
     requires { ⌜ Short (now fields) 2 × Short (now fields) 4 × (length (now fields) ≡ 48) ⌝ }
     ensures { λ r. ⌜ Replied (quantText (quantBy (now (fields .entry)) (now (room .entry))))
-        (now (room .entry)) r (now (room .exit)) ⌝ }
+        (now (room .entry)) r none (now (room .exit)) ⌝ }
 {
     let lambda = double_of(fields[3]);
     let costs = costs_from(fields, 5);
@@ -145,7 +150,7 @@ fn call_sub_block(room: &mut [i16], fields: &[u64]) -> Reply
     requires { ⌜ Short (now fields) 1 × Short (now fields) 2 × Short (now fields) 4 × Short (now fields) 6
         × Short (now fields) 8 × (length (now fields) ≡ 48) ⌝ }
     ensures { λ r. ⌜ Replied (threeText (threeBy (now (fields .entry)) (now (room .entry))))
-        (now (room .entry)) r (now (room .exit)) ⌝ }
+        (now (room .entry)) r none (now (room .exit)) ⌝ }
 {
     let qp = qps_of(fields);
     let lambda = lambdas_of(fields);
@@ -185,7 +190,7 @@ fn call_sub_block(room: &mut [i16], fields: &[u64]) -> Reply
 fn call_scale_back(room: &mut [i16], fields: &[u64]) -> Reply
     requires { ⌜ Short (now fields) 1 × (length (now fields) ≡ 48) ⌝ }
     ensures { λ r. ⌜ Replied (scaleText (scaleBy (now (fields .entry)) (now (room .entry))))
-        (now (room .entry)) r (now (room .exit)) ⌝ }
+        (now (room .entry)) r none (now (room .exit)) ⌝ }
 {
     let result = galemosu_scale_back(room, fields[0] as usize, fields[1] as u32);
     reply_by(result, 0, 0, [0; 12])
@@ -194,7 +199,7 @@ fn call_scale_back(room: &mut [i16], fields: &[u64]) -> Reply
 fn call_inverse(room: &mut [i16], fields: &[u64]) -> Reply
     requires { ⌜ length (now fields) ≡ 48 ⌝ }
     ensures { λ r. ⌜ Replied (inverseText (inverseBy (now (fields .entry)) (now (room .entry))))
-        (now (room .entry)) r (now (room .exit)) ⌝ }
+        (now (room .entry)) r none (now (room .exit)) ⌝ }
 {
     let result = galemosu_inverse(room, fields[0] as usize, fields[1] as usize);
     reply_by(result, 0, 0, [0; 12])
@@ -240,7 +245,7 @@ fn call_guarded(room: &mut [i16], fields: &[u64]) -> Reply
     requires { ⌜ Short (now fields) 1 × Short (now fields) 2 × Short (now fields) 4 × Short (now fields) 6
         × Short (now fields) 8 × ShortHeights (now fields) × (length (now fields) ≡ 48) ⌝ }
     ensures { λ r. ⌜ Replied (guardedText (guardedBy (now (fields .entry)) (now (room .entry))))
-        (now (room .entry)) r (now (room .exit)) ⌝ }
+        (now (room .entry)) r none (now (room .exit)) ⌝ }
 {
     let qp = qps_of(fields);
     let lambda = lambdas_of(fields);
@@ -275,7 +280,7 @@ fn parted(room: &[i16], wanted: usize) -> usize
 fn call_measure(room: &[i16], fields: &[u64]) -> Reply
     requires { ⌜ Short (now fields) 1 × Short (now fields) 2 × (length (now fields) ≡ 48) ⌝ }
     ensures { λ r. ⌜ Replied (measureText (measureBy (now (fields .entry)) (now (room .entry))) (now (room .entry)))
-        (now (room .entry)) r (now (room .entry)) ⌝ }
+        (now (room .entry)) r none (now (room .entry)) ⌝ }
 {
     let n = parted(room, fields[3] as usize);
     let mut answer = [0u64; 2];
@@ -295,11 +300,31 @@ fn call_measure(room: &[i16], fields: &[u64]) -> Reply
     )
 }
 
-// The fields are those of the verb, in their order, each within its limit.
-pub fn call(verb: Verb, room: &mut [i16], fields: &[u64]) -> Reply
+fn call_write(room: &[i16], list: &mut [u32], fields: &[u64]) -> Reply
+    requires { ⌜ length (now fields) ≡ 48 ⌝ }
+    ensures { λ r. ⌜ Replied (writeText (writeBy (now (fields .entry)) (now (list .entry)) (now (room .entry))))
+        (now (room .entry)) r (some (now (list .exit))) (now (room .entry)) ⌝ }
+{
+    let mut answer = [0u64; 1];
+    let result = galemosu_write_symbols(room, fields[0] as usize, list, &mut answer);
+    reply_by(result, 0, 1, [answer[0], 0, 0, 0, 0, 0, 0, 0, 0, 0, 0, 0])
+}
+
+fn call_read(room: &mut [i16], list: &[u32], fields: &[u64]) -> Reply
+    requires { ⌜ length (now fields) ≡ 48 ⌝ }
+    ensures { λ r. ⌜ Replied (readText (readBy (now (fields .entry)) (now (list .entry)) (now (room .entry))))
+        (now (room .entry)) r (some (now (list .entry))) (now (room .exit)) ⌝ }
+{
+    let result = galemosu_read_symbols(list, room, fields[0] as usize);
+    reply_by(result, 0, 0, [0; 12])
+}
+
+// The fields are those of the verb, in their order, each within its limit. The list is used where the verb has one.
+pub fn call(verb: Verb, room: &mut [i16], list: &mut [u32], fields: &[u64]) -> Reply
     requires { ⌜ Limited (kindsOf verb) (now fields) × (length (now fields) ≡ 48) ⌝ }
-    ensures { λ r. ⌜ Replied (answered verb (take (length (kindsOf verb)) (now (fields .entry))) (now (room .entry)))
-        (now (room .entry)) r (now (room .exit)) ⌝ }
+    ensures { λ r. ⌜ Replied
+        (answered verb (take (length (kindsOf verb)) (now (fields .entry))) (now (list .entry)) (now (room .entry)))
+        (now (room .entry)) r (listIf (hasList verb) (now (list .exit))) (now (room .exit)) ⌝ }
 {
     match verb {
         Verb::Transform => call_transform(room, fields),
@@ -309,5 +334,7 @@ pub fn call(verb: Verb, room: &mut [i16], fields: &[u64]) -> Reply
         Verb::Inverse => call_inverse(room, fields),
         Verb::Guarded => call_guarded(room, fields),
         Verb::Measure => call_measure(room, fields),
+        Verb::Write => call_write(room, list, fields),
+        Verb::Read => call_read(room, list, fields),
     }
 }

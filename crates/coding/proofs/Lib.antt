@@ -1,4 +1,4 @@
-pub mod Laid
+pub mod Signed
 pub mod Modes
 pub mod Accepted
 pub mod Promises

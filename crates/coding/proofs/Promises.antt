@@ -20,6 +20,8 @@ use Rattle.integers.specs.Tests.{some}
 use Rattle.integers.proofs.Lists.{map-at, none-passes, passed-by-none}
 use Rattle.scan.specs.Scan.{scan, scanAt}
 use Rattle.scan.proofs.OneToOne.{scan-length}
+use Rattle.scan.specs.Order.{laid}
+use Rattle.scan.proofs.Laid.{laid-on-scan, surplus-kept}
 use Rattle.refusals.specs.Faults.{passed}
 use Rattle.refusals.proofs.First.{answer-given}
 use Rattle.price.specs.Level.{scaled, nearest, threshold, signed}
@@ -37,10 +39,10 @@ use Rattle.coding.specs.declared.Coded.{Coded}
 use Rattle.coding.specs.declared.Mode.{Mode}
 use Rattle.coding.specs.declared.Mode.the-variants.{Walk, Least}
 use Rattle.coding.specs.Block.{Quant, area, scaleHere, shiftHere, ruleOf, blockPlaces, scanned, places}
-use Rattle.coding.specs.Block.{isSkipped, writtenIn, magnitudes, signs, laid, priceOf, quantised}
+use Rattle.coding.specs.Block.{isSkipped, writtenIn, magnitudes, signs, priceOf, quantised}
 use Rattle.coding.specs.Call.{coded, quantVerdict, uncodedHere, quantAnswer, quantBuffer}
 use Rattle.coding.proofs.Modes.{length-written, zero-or-m-or-m-1}
-use Rattle.coding.proofs.Laid.{signs-length, signs-at, laid-on-scan, laid-magnitudes, surplus-kept}
+use Rattle.coding.proofs.Signed.{signs-length, signs-at, laid-magnitudes}
 use Rattle.coding.proofs.Accepted.{Accepted, no-fault}
 
 -- ---- a level

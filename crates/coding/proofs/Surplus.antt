@@ -17,6 +17,7 @@ use Rattle.integers.specs.Tests.{some, eqℤ}
 use Rattle.integers.proofs.Lists.{map-at}
 use Rattle.scan.specs.Scan.{scan, scanAt}
 use Rattle.scan.proofs.OneToOne.{scan-inside}
+use Rattle.scan.specs.Order.{laid}
 use Rattle.refusals.specs.Faults.{Outcome, accepted, refused, ifAccepted}
 use Rattle.refusals.proofs.First.{Alike, all, next, same-verdict}
 use Rattle.price.specs.declared.Costs.{Costs}
@@ -24,7 +25,7 @@ use Rattle.price.specs.Level.{scaled, nearest, threshold}
 use Rattle.price.specs.Price.{nonzeros}
 use Rattle.coding.specs.declared.Coding.{Coding}
 use Rattle.coding.specs.Block.{Quant, called, area, scaleHere, shiftHere, lambdaHere, rowsHere, ruleOf}
-use Rattle.coding.specs.Block.{blockPlaces, scanned, places, isSkipped, largest, magnitudes, signs, laid, countOf}
+use Rattle.coding.specs.Block.{blockPlaces, scanned, places, isSkipped, largest, magnitudes, signs, countOf}
 use Rattle.coding.specs.Block.{priceOf}
 use Rattle.coding.specs.Block.{quantised}
 use Rattle.coding.specs.Call.{sideFault, qpFault, lambdaFault, costFault, lengthFault, sampleFault, largestHere}

@@ -5,11 +5,11 @@ use mathlib.Core.Bool.{Bool, not, cond}
 use mathlib.Core.List.{List, [], _∷_, map}
 use Prim.Native.Nat.{ℕ, _+_, _*_, _/_, _^_, max}
 use lib.Dec.{leb}
-use lib.ListN.{set}
 use lib.IntN.{ℤ}
 use Rattle.integers.specs.Sum.{at}
 use Rattle.integers.specs.Tests.{some}
 use Rattle.scan.specs.Scan.{scan}
+use Rattle.scan.specs.Order.{laid}
 use Rattle.tables.specs.Scales.{forward, scaleOf, errorScale}
 use Rattle.refusals.specs.declared.Component.{Component}
 use Rattle.price.specs.declared.Settings.{Settings}
@@ -160,12 +160,6 @@ unfolding signed
 signs [] ms = []
 signs (c ∷ cs) [] = []
 signs (c ∷ cs) (m ∷ ms) = signed c m ∷ signs cs ms
-
--- the list with each of the values at its place
-unfoldable pub laid : List ℕ → List ℤ → List ℤ → List ℤ
-laid [] vs l = l
-laid (p ∷ ps) [] l = l
-laid (p ∷ ps) (v ∷ vs) l = laid ps vs (set l p v)
 
 unfoldable pub countOf : Quant → ℕ
 unfolding magnitudes nonzeros

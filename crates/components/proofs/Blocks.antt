@@ -12,6 +12,7 @@ use lib.ListN.{length, drop}
 use lib.Seq.{take-all, take-take, drop-length}
 use lib.IntN.{ℤ}
 use Rattle.integers.specs.Tests.{some}
+use Rattle.scan.proofs.Laid.{laid-length}
 use Rattle.refusals.specs.declared.Component.{Component}
 use Rattle.refusals.specs.Sides.{mostLog2}
 use Rattle.refusals.specs.Faults.{outside, accepted, passed}
@@ -20,7 +21,6 @@ use Rattle.transform.specs.Coefficients.{coefficients}
 use Rattle.transform.specs.Call.{Trans, wild, places, sideFault, lengthFault, sampleFault, transFaults, transVerdict}
 use Rattle.transform.specs.Call.{transBuffer, transformed}
 use Rattle.coding.specs.Block.{Quant, blockPlaces, signs, scanned, magnitudes, quantised}
-use Rattle.coding.proofs.Laid.{laid-length}
 use Rattle.components.specs.Call.{SubBlock, runs, area, start, stretch, transOf, inTrans}
 
 -- tame residuals that fill their block: the transform accepts them, and leaves their coefficients

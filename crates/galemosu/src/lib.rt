@@ -5,24 +5,27 @@ use wire::guarded_block;
 use wire::inverse;
 use wire::measure;
 use wire::quantise;
+use wire::read_symbols;
 use wire::scale_back;
 use wire::sub_block;
 use wire::transform;
+use wire::write_symbols;
 ghost use mathlib.Core.Path.{_≡_};
 ghost use Rattle.refusals.specs.declared.Component.the-variants.{Y, U, «V»};
+ghost use Rattle.runs.specs.Call.{writing, reading};
 ghost use Rattle.transform.specs.Call.{called};
 ghost use Rattle.decoding.specs.Call.{levelsLent, coefficientsLent};
 ghost use Rattle.heights.specs.Call.{lent};
-ghost use Rattle.surface.specs.Surface.{TransLeft, ScaleLeft, InverseLeft, MeasureLeft};
+ghost use Rattle.surface.specs.Surface.{TransLeft, ScaleLeft, InverseLeft, MeasureLeft, WriteLeft, ReadLeft};
 ghost use Rattle.surface.specs.Surface.{quantAsked, QuantLeft, threeAsked, ThreeLeft, guardedAsked, GuardedLeft};
 
 // Which surface this is: 10000 times the first number of the version, 100 times the second, and the third. The header
 // and the host crate have the same number.
 #[no_mangle]
 pub extern "C" fn galemosu_version() -> u32
-    ensures { λ r. ⌜ r ≡ 500 ⌝ }
+    ensures { λ r. ⌜ r ≡ 600 ⌝ }
 {
-    500
+    600
 }
 
 #[no_mangle]
@@ -182,4 +185,24 @@ pub extern "C" fn galemosu_measure(
         r (now (answer .exit)) ⌝ }
 {
     measure(residuals, levels, log2_side, qp, answer)
+}
+
+#[no_mangle]
+pub extern "C" fn galemosu_write_symbols(
+    block: &[i16],
+    log2_side: usize,
+    list: &mut [u32],
+    answer: &mut [u64; 1],
+) -> u32
+    ensures { λ r. ⌜ WriteLeft (writing (now (block .entry)) «log2_side» (now (list .entry)))
+        r (now (answer .exit)) (now (list .exit)) ⌝ }
+{
+    write_symbols(block, log2_side, list, answer)
+}
+
+#[no_mangle]
+pub extern "C" fn galemosu_read_symbols(list: &[u32], block: &mut [i16], log2_side: usize) -> u32
+    ensures { λ r. ⌜ ReadLeft (reading (now (list .entry)) (now (block .entry)) «log2_side») r (now (block .exit)) ⌝ }
+{
+    read_symbols(list, block, log2_side)
 }

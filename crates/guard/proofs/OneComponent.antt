@@ -14,7 +14,7 @@ use Rattle.refusals.specs.declared.Component.{Component}
 use Rattle.refusals.specs.Numbers.{numberOf, componentOf}
 use Rattle.refusals.specs.Sides.{mostLog2}
 use Rattle.refusals.specs.Faults.{Outcome, accepted, passed, refused, answering}
-use Rattle.refusals.proofs.First.{refusing-verdict, answer-given, inside}
+use Rattle.refusals.proofs.First.{refusing-verdict, accepting-verdict, answer-given, inside}
 use Rattle.price.specs.declared.Costs.{Costs}
 use Rattle.coding.specs.declared.Coded.{Coded}
 use Rattle.coding.specs.declared.Coding.{Coding}
@@ -33,11 +33,6 @@ use Rattle.guarding.specs.declared.GuardAnswer.the-variants as answers
 use Rattle.guarding.specs.Call.{heightsOf, nothing}
 use Rattle.guarding.specs.Inner.Held.{guardBy, Guardable, heldAnswer, Held}
 use Rattle.guard.specs.Inner.Part.{OfMode, guardIn, past, guardPartAnswer, guardPartLeft, HeldPart}
-
--- an answer that is given comes from a verdict that passed
-pub accepting-verdict : {A : Type 0} (a : A) (v : Outcome Unit) (b : A) → answering v a ≡ accepted b → v ≡ passed
-accepting-verdict a (accepted u) b e = refl
-accepting-verdict a (refused n c) b e = absurd (let z : _≡_ {A = ℕ} 0 1 = cc in let no : ⊥ = omega arith in no)
 
 -- what holds of residuals, of what is asked and of heights holds of what equals them
 moved : (P : List ℤ → Coding → Heights → Type 0) {r s : List ℤ} {c d : Coding} {h i : Heights} → r ≡ s → c ≡ d → h ≡ i

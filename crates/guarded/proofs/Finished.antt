@@ -11,7 +11,7 @@ use Rattle.refusals.specs.declared.Component.{Component}
 use Rattle.refusals.specs.declared.Component.the-variants.{Y, U, «V»}
 use Rattle.refusals.specs.Numbers.{numberOf, componentOf}
 use Rattle.refusals.specs.Faults.{Outcome, passed, refused, verdict}
-use Rattle.refusals.proofs.First.{orElse, refusing-verdict, refusing-answer}
+use Rattle.refusals.proofs.First.{orElse, refusing-verdict, refusing-answer, accepting-verdict}
 use Rattle.price.specs.declared.Costs.{Costs}
 use Rattle.components.specs.declared.Request.{Request}
 use Rattle.components.specs.Call.{SubBlock, requested, stretch}
@@ -29,7 +29,6 @@ use Rattle.guarding.specs.Call.{GuardedBlock, guardedRequest, guardedVerdict, s
 use Rattle.guarding.specs.Call.{guardedOutcome, guardedBuffer}
 use Rattle.guarding.proofs.Answer.{answer-whole, refused-leaves}
 use Rattle.guard.specs.Inner.Part.{guardPartAnswer, guardPartLeft}
-use Rattle.guard.proofs.OneComponent.{accepting-verdict}
 use Rattle.guarded.specs.Inner.Room.{shares, answerIn, leftIn}
 use Rattle.guarded.proofs.Whole.{late, verdict-in-groups, answer-is, coded-leaves}
 

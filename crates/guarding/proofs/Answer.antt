@@ -7,12 +7,12 @@ use mathlib.Core.List.{List, _++_}
 use Prim.Native.Nat.{ℕ, _+_}
 use lib.ListN.{length, take, drop}
 use lib.IntN.{ℤ}
+use Rattle.scan.proofs.Laid.{laid-length}
 use Rattle.refusals.specs.declared.Component.{Component}
 use Rattle.refusals.specs.declared.Component.the-variants.{Y, U, «V»}
 use Rattle.refusals.specs.Faults.{Outcome, accepted, passed, refused, answering}
 use Rattle.transform.proofs.Bounds.{coefficients-long}
 use Rattle.coding.specs.Block.{blockPlaces, signs, scanned}
-use Rattle.coding.proofs.Laid.{laid-length}
 use Rattle.components.specs.Call.{runs, log2Of, area, start, stretch, transOf, quantOn, quantOf}
 use Rattle.components.specs.Inner.Groups.{EarlyPassed}
 use Rattle.components.proofs.Alone.{behind, stretch-long, joined-at, joined-behind}

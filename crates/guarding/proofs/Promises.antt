@@ -13,12 +13,13 @@ use lib.ListN.{length, getD}
 use lib.Signed.{nonNeg, _≤ℤ_}
 use lib.IntN.{ℤ, pos, natAbs, _-ℤ_}
 use Rattle.integers.specs.Sum.{at}
+use Rattle.scan.specs.Order.{laid}
 use Rattle.refusals.specs.declared.Component.{Component}
 use Rattle.refusals.specs.Faults.{passed}
 use Rattle.price.specs.declared.Costs.{Costs}
 use Rattle.price.specs.Rule.{Allowed}
 use Rattle.price.specs.Price.{nonzeros, price}
-use Rattle.coding.specs.Block.{Quant, ruleOf, blockPlaces, scanned, places, signs, laid}
+use Rattle.coding.specs.Block.{Quant, ruleOf, blockPlaces, scanned, places, signs}
 use Rattle.coding.specs.Block as quant
 use Rattle.coding.specs.Call.{quantVerdict}
 use Rattle.coding.proofs.Promises.{placeOf, rounded, magnitudesIn, laid-level-allowed, laid-read-back}

@@ -7,8 +7,9 @@ use lib.Dec.{ltb}
 use lib.ListN.{take, drop}
 use lib.IntN.{ℤ}
 use Rattle.integers.specs.Tests.{some, listed}
+use Rattle.scan.specs.Order.{laid}
 use Rattle.price.specs.Price.{nonzeros, price}
-use Rattle.coding.specs.Block.{Quant, log2Of, ruleOf, blockPlaces, scanned, places, magnitudes, signs, laid}
+use Rattle.coding.specs.Block.{Quant, log2Of, ruleOf, blockPlaces, scanned, places, magnitudes, signs}
 use Rattle.heights.specs.declared.Extremes.{Extremes}
 use Rattle.heights.specs.declared.Heights.{Heights}
 use Rattle.heights.specs.Extremes.{extremes, within}

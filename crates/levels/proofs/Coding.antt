@@ -18,6 +18,7 @@ use Rattle.integers.proofs.Order.{below-or-not}
 use Rattle.integers.proofs.Lists.{map-at}
 use Rattle.scan.specs.Scan.{scan, squareScan}
 use Rattle.scan.proofs.OneToOne.{scan-length, square-scan-length}
+use Rattle.scan.specs.Order.{inOrder}
 use Rattle.refusals.specs.Sides.{mostLog2}
 use Rattle.price.specs.Level.{scaled, nearest}
 use Rattle.price.specs.Rule.{Rule}
@@ -32,7 +33,7 @@ use Rattle.weights.specs.Inner.Choosing.{Choosable, ChosenBy}
 use Rattle.coding.specs.declared.Mode.{Mode}
 use Rattle.coding.specs.declared.Mode.the-variants as modes
 use Rattle.coding.specs.Block.{writtenIn, signs}
-use Rattle.signs.specs.Inner.Signs.{keptOf, KeptAs, inOrder}
+use Rattle.signs.specs.Inner.Signs.{keptOf, KeptAs}
 use Rattle.levels.specs.Inner.Levels.{placesBy, Codable, CodedAs}
 use Rattle.along.proofs.Steps.{allowed-below}
 use Rattle.signs.proofs.Keeping.{kept-some, kept-places, kept-uncoded, kept-lighter}

@@ -6,10 +6,10 @@ use lib.ListN.{getD, List·getD-map}
 use lib.IntN.{ℤ, pos, natAbs}
 use Rattle.integers.specs.Sum.{at}
 use Rattle.scan.specs.Scan.{scan, scanAt}
+use Rattle.scan.specs.Order.{inOrder}
 use Rattle.price.specs.Level.{scaled}
 use Rattle.weights.specs.Inner.Places.{inScan, Scanned}
 use Rattle.weights.proofs.Places.{scan-at}
-use Rattle.signs.specs.Inner.Signs.{inOrder}
 
 module _ (w h : ℕ) (block : List ℤ) where
   pub magnitudes-in-scan : inScan w h (map natAbs block) ≡ map (λ p. natAbs (at block p)) (scan w h)

@@ -8,10 +8,10 @@ use lib.ListN.{length, length-map}
 use lib.IntN.{ℤ, natAbs}
 use Rattle.integers.specs.Sum.{at}
 use Rattle.scan.specs.Scan.{scan}
-use Rattle.coding.specs.Block.{signs, laid}
-use Rattle.coding.proofs.Laid.{laid-magnitudes}
+use Rattle.scan.specs.Order.{laid, inOrder}
+use Rattle.coding.specs.Block.{signs}
+use Rattle.coding.proofs.Signed.{laid-magnitudes}
 use Rattle.weights.specs.Inner.Places.{inScan, Scanned}
-use Rattle.signs.specs.Inner.Signs.{inOrder}
 use Rattle.order.proofs.Coefficients.{magnitudes-in-scan}
 
 pub levels-in-scan : (w h : ℕ) (held : List ℕ) → Scanned w h held → (block : List ℤ) (ms : List ℕ)

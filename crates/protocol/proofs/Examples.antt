@@ -1,12 +1,13 @@
--- The definition at some whole lines of the verbs whose calls answer a verdict alone, of `guarded` and of `measure`.
--- The fields of a line differ, so that one taken for the other shows. The answers were worked out by a program that
--- shares nothing with the definitions.
+-- The definition at some whole lines of the verbs whose calls answer a verdict alone, of `guarded`, of `measure` and of
+-- those with a list. The fields of a line differ, so that one taken for the other shows. The answers were worked out by
+-- a program that shares nothing with the definitions.
 -- Assumes nothing.
 use mathlib.Core.Path.{_≡_, refl}
 use mathlib.Core.List.{List, _++_}
 use Prim.Native.Nat.{ℕ}
 use lib.Ieee.{ofBits}
 use Rattle.tables.specs.Scales.{back}
+use Rattle.runs.specs.Call.{writeAnswer, writeList, readVerdict, readBuffer}
 use Rattle.transform.specs.Call.{transBuffer}
 use Rattle.decoding.specs.Call.{scaleBuffer, inverseBuffer}
 use Rattle.price.specs.Costs.{costsOf}
@@ -86,3 +87,29 @@ no-levels :
     ≡ bytes "refused 5 0 : 50 -30 7 -100 900 3 -1 0"
 unfolding answerTo measureAnswer
 no-levels = refl
+
+-- a block of side 2 and a surplus; two symbols, and a number of the list behind them
+written :
+    answerTo (bytes "write 1 3 9 8 7 5 0 -5 0 32767 77")
+    ≡ bytes "accepted 2 : 33559553 100662273 7 : 0 -5 0 32767 77"
+unfolding answerTo writeAnswer writeList
+written = refl
+
+room-refused : answerTo (bytes "write 1 1 9 4 1 0 0 -1") ≡ bytes "refused 10 0 : 9 : 1 0 0 -1"
+unfolding answerTo writeAnswer writeList
+room-refused = refl
+
+read-back :
+    answerTo (bytes "read 1 2 33559553 100662273 5 1 2 3 4 77")
+    ≡ bytes "accepted : 33559553 100662273 : 0 -5 0 32767 77"
+unfolding answerTo readVerdict readBuffer
+read-back = refl
+
+-- a list without numbers, and one whose last symbol lacks its mark
+none-read : answerTo (bytes "read 1 0 4 1 2 3 4") ≡ bytes "accepted : : 0 0 0 0"
+unfolding answerTo readVerdict readBuffer
+none-read = refl
+
+symbol-refused : answerTo (bytes "read 1 1 1024 4 1 2 3 4") ≡ bytes "refused 11 0 : 1024 : 1 2 3 4"
+unfolding answerTo readVerdict readBuffer
+symbol-refused = refl

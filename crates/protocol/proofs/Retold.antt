@@ -11,6 +11,6 @@ pub retold : {text written before after : List ℕ} → {r : ℕ} → text ≡ w
     → Written text before after r
 retold e w = record { holds = w .holds ∙ sym e; some = w .some; few = w .few; kept = w .kept }
 
-pub so-many : (verb : Verb) → (fields : List ℕ) → (words : List (List ℕ)) → {n m : ℕ} → n ≡ m
-    → withSamples verb fields (exactlyOf n words) ≡ withSamples verb fields (exactlyOf m words)
-so-many verb fields words e = ap (λ n. withSamples verb fields (exactlyOf n words)) e
+pub so-many : (verb : Verb) → (fields list : List ℕ) → (words : List (List ℕ)) → {n m : ℕ} → n ≡ m
+    → withSamples verb fields list (exactlyOf n words) ≡ withSamples verb fields list (exactlyOf m words)
+so-many verb fields list words e = ap (λ n. withSamples verb fields list (exactlyOf n words)) e

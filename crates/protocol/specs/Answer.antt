@@ -8,7 +8,7 @@ use Rattle.calls.specs.Calls.{answered}
 
 abbrev pub answerOf : Option Request → List ℕ
 answerOf none = malformedText
-answerOf (some q) = answered (q .verb) (q .fields) (q .samples)
+answerOf (some q) = answered (q .verb) (q .fields) (q .list) (q .samples)
 
 unfoldable pub answerTo : List ℕ → List ℕ
 unfolding asked answered

@@ -20,6 +20,8 @@ use Rattle.tables.specs.Scales.{forward, scaleOf, errorScale}
 use Rattle.tables.proofs.Range.{scale-range}
 use Rattle.scan.proofs.OneToOne.{scan-length}
 use Rattle.scan.proofs.Order.{scan-over, scan-hit}
+use Rattle.scan.specs.Order.{laid, inOrder}
+use Rattle.scan.proofs.Laid.{laid-length}
 use Rattle.refusals.specs.Numbers.{numberOf, componentOf}
 use Rattle.refusals.specs.Sides.{mostLog2}
 use Rattle.refusals.specs.Faults.{Fault, refused, outside, passed}
@@ -39,7 +41,7 @@ use Rattle.price.proofs.Bounds.{uncoded-over}
 use Rattle.coding.specs.declared.Coding.{Coding}
 use Rattle.coding.specs.Block.{Quant, called, writtenIn, log2Of, area, scaleHere, shiftHere, lambdaHere}
 use Rattle.coding.specs.Block.{rowsHere, ruleOf, blockPlaces, scanned, places, isSkipped, largest, magnitudes, signs}
-use Rattle.coding.specs.Block.{laid, countOf, priceOf, quantised}
+use Rattle.coding.specs.Block.{countOf, priceOf, quantised}
 use Rattle.coding.specs.Call.{sideFault, qpFault, lambdaFault, costFault, lengthFault, sampleFault, largestHere}
 use Rattle.coding.specs.Call.{levelFault, priceFault, uncodedHere, distortionFault, quantFaults, quantVerdict}
 use Rattle.coding.specs.Call.{coded, quantAnswer, quantBuffer}
@@ -48,11 +50,9 @@ use Rattle.weights.specs.Inner.Prices.{ruleBy}
 use Rattle.contexts.specs.Inner.Reading.{pricesOf}
 use Rattle.quantise.specs.Inner.Early.{EarlyPassed}
 use Rattle.coefficients.specs.Inner.Coefficients.{zeroDistortion}
-use Rattle.signs.specs.Inner.Signs.{inOrder}
 use Rattle.levels.specs.Inner.Levels.{placesBy, CodedAs}
 use Rattle.contexts.proofs.Pricing.{rate-weighed}
 use Rattle.coefficients.proofs.Reaching.{largest-is}
-use Rattle.coding.proofs.Laid.{laid-length}
 use Rattle.coding.proofs.Promises.{skipped-is-cleared, skipped-count-and-price}
 use Rattle.coding.proofs.Skipped.{skipped-D-below}
 

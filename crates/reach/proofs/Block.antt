@@ -15,12 +15,13 @@ use Rattle.refusals.specs.Sides.{mostLog2}
 use Rattle.scan.specs.Scan.{scan, scanAt}
 use Rattle.scan.proofs.OneToOne.{scan-length}
 use Rattle.scan.proofs.Order.{scan-hit}
+use Rattle.scan.specs.Order.{laid}
+use Rattle.scan.proofs.Laid.{laid-on-scan, laid-length}
 use Rattle.tables.specs.Scales.{forward, back}
 use Rattle.transform.specs.Coefficients.{coefficients}
 use Rattle.transform.proofs.Bounds.{coefficients-long}
 use Rattle.price.specs.Level.{scaled, nearest, signed}
-use Rattle.coding.specs.Block.{Quant, log2Of, scaleHere, shiftHere, ruleOf, blockPlaces, scanned, places, signs, laid}
-use Rattle.coding.proofs.Laid.{laid-on-scan, laid-length}
+use Rattle.coding.specs.Block.{Quant, log2Of, scaleHere, shiftHere, ruleOf, blockPlaces, scanned, places, signs}
 use Rattle.heights.specs.declared.Extremes.{Extremes}
 use Rattle.heights.specs.Extremes.{extremes}
 use Rattle.guarding.specs.Block.{Guard, plain, levelsOf, extremesWith}

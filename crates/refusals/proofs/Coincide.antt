@@ -8,7 +8,7 @@ use native.Mathlib.Omega.{arith}
 use lib.ListN.{getD}
 use Rattle.refusals.specs.declared.Refusal.{Refusal}
 use Rattle.refusals.specs.declared.Refusal.the-variants.{Side, Qp, Lambda, Cost, Length, Sample, Level, Price}
-use Rattle.refusals.specs.declared.Refusal.the-variants.{Distortion, Height}
+use Rattle.refusals.specs.declared.Refusal.the-variants.{Distortion, Room, Symbol, Height}
 use Rattle.refusals.specs.declared.Verdict.{Verdict}
 use Rattle.refusals.specs.declared.Verdict.the-variants.{Accepted, Refused}
 use Rattle.refusals.specs.declared.Component.{Component}
@@ -20,9 +20,10 @@ use Rattle.refusals.specs.Faults.{Outcome, verdictOutcome}
 undone : {A B : Type 0} (f : A → B) (back : B → A) → ((a : A) → back (f a) ≡ a) → (a b : A) → f a ≡ f b → a ≡ b
 undone f back is a b e = sym (is a) ∙ ap back e ∙ is b
 
--- the refusal of a number, and the component: no refusal has the number 0, and of those above 9 only 15 is one
+-- the refusal of a number, and the component: no refusal has the number 0, and of those above 11 only 15 is one
 abbrev refusalAt : ℕ → Refusal
-refusalAt n = getD (Side ∷ Side ∷ Qp ∷ Lambda ∷ Cost ∷ Length ∷ Sample ∷ Level ∷ Price ∷ Distortion ∷ []) n Height
+refusalAt n =
+    getD (Side ∷ Side ∷ Qp ∷ Lambda ∷ Cost ∷ Length ∷ Sample ∷ Level ∷ Price ∷ Distortion ∷ Room ∷ Symbol ∷ []) n Height
 
 abbrev componentAt : ℕ → Component
 componentAt n = getD (Y ∷ U ∷ «V» ∷ []) n Y
@@ -40,6 +41,8 @@ number-tells = undone numberOf refusalAt is
     is Level = refl
     is Price = refl
     is Distortion = refl
+    is Room = refl
+    is Symbol = refl
     is Height = refl
 
 pub component-tells : (a b : Component) → componentOf a ≡ componentOf b → a ≡ b

@@ -134,3 +134,7 @@ module _ {A : Type 0} (a : A) where
   pub answer-given : (v : Outcome Unit) (b : A) → answering v a ≡ accepted b → a ≡ b
   answer-given (accepted u) b e = cc
   answer-given (refused n c) b e = absurd (let z : _≡_ {A = ℕ} 0 1 = cc in let no : ⊥ = omega arith in no)
+
+  pub accepting-verdict : (v : Outcome Unit) (b : A) → answering v a ≡ accepted b → v ≡ passed
+  accepting-verdict (accepted u) b e = refl
+  accepting-verdict (refused n c) b e = absurd (let z : _≡_ {A = ℕ} 0 1 = cc in let no : ⊥ = omega arith in no)

@@ -17,6 +17,8 @@ pub enum Refusal {
     Level,
     Price,
     Distortion,
+    Room,
+    Symbol,
     Height,
 }
 
@@ -46,6 +48,8 @@ pub fn number(why: Refusal) -> u32
         Refusal::Level => 7,
         Refusal::Price => 8,
         Refusal::Distortion => 9,
+        Refusal::Room => 10,
+        Refusal::Symbol => 11,
         Refusal::Height => 15,
     }
 }

@@ -1,5 +1,5 @@
--- What a line asks for, from what its readers answer. A caller reads the verb, the fields, N and the samples in turn:
--- a law for each answer says what the line, or what is left of it, asks for.
+-- What a line asks for, from what its readers answer. A caller reads the verb, the fields, the list, N and the samples
+-- in turn: a law for each answer says what the line, or what is left of it, asks for.
 -- Assumes nothing.
 use mathlib.Core.Path.{_≡_, refl}
 use mathlib.Core.Bool.{Bool, true, false, cond}
@@ -18,8 +18,9 @@ use Rattle.requests.specs.declared.request.Count.the-variants as counts
 use Rattle.requests.specs.declared.request.Place.{Place}
 use Rattle.requests.specs.declared.request.Place.the-variants as places
 use Rattle.requests.specs.Words.{wordsOf}
-use Rattle.requests.specs.Request.{kindsOf, exactlyOf, withSamples, behindFields, behindVerb, requestOf, asked}
-use Rattle.requests.specs.Inner.Cursors.{endFrom, wordsFrom, Fields, Counted}
+use Rattle.requests.specs.Request.{kindsOf, hasList, mostBehind, exactlyOf, withSamples}
+use Rattle.requests.specs.Request.{behindList, behindFields, behindVerb, requestOf, asked}
+use Rattle.requests.specs.Inner.Cursors.{endFrom, wordsFrom, Fields, Counted, Listed}
 use Rattle.requests.proofs.Spaces.{first-words}
 
 module _ (line : List ℕ) where
@@ -49,25 +50,37 @@ module _ (line : List ℕ) where
     unfolding behindVerb
     fields-read next e = rw (h .read, e) refl
 
-  -- ---- N
-  module _ (verb : Verb) (fields : List ℕ) (at : ℕ) (r : Count) (h : Counted line at r) where
-    pub count-malformed : r ≡ counts.Malformed → behindFields verb fields (wordsFrom line at) ≡ none
+  -- ---- its list
+  module _ (verb : Verb) (fields : List ℕ) (at : ℕ) (room : List ℕ) (r : Count)
+      (h : Listed (hasList verb) line at room r) where
+    pub list-malformed : r ≡ counts.Malformed → behindFields verb fields (wordsFrom line at) ≡ none
     unfolding behindFields
+    list-malformed e = rw (h .read, e) refl
+
+    pub list-read : (k next : ℕ) → r ≡ counts.Of k next → behindFields verb fields (wordsFrom line at)
+        ≡ behindList verb fields (take k room) (wordsFrom line next)
+    unfolding behindFields
+    list-read k next e = rw (h .read, e) refl
+
+  -- ---- N
+  module _ (verb : Verb) (fields list : List ℕ) (at : ℕ) (r : Count) (h : Counted (mostBehind list) line at r) where
+    pub count-malformed : r ≡ counts.Malformed → behindList verb fields list (wordsFrom line at) ≡ none
+    unfolding behindList
     count-malformed e = rw (h .read, e) refl
 
-    pub count-read : (n next : ℕ) → r ≡ counts.Of n next → behindFields verb fields (wordsFrom line at)
-        ≡ withSamples verb fields (exactlyOf n (wordsFrom line next))
-    unfolding behindFields
+    pub count-read : (n next : ℕ) → r ≡ counts.Of n next → behindList verb fields list (wordsFrom line at)
+        ≡ withSamples verb fields list (exactlyOf n (wordsFrom line next))
+    unfolding behindList
     count-read n next e = rw (h .read, e) refl
 
   -- ---- the samples, into a room for n
-  module _ (verb : Verb) (fields : List ℕ) (n at : ℕ) (room : List ℤ) (r : Bool)
+  module _ (verb : Verb) (fields list : List ℕ) (n at : ℕ) (room : List ℤ) (r : Bool)
       (h : exactlyOf n (wordsFrom line at) ≡ cond r (some room) none) where
-    pub samples-malformed : r ≡ false → withSamples verb fields (exactlyOf n (wordsFrom line at)) ≡ none
+    pub samples-malformed : r ≡ false → withSamples verb fields list (exactlyOf n (wordsFrom line at)) ≡ none
     unfolding withSamples
     samples-malformed e = rw (h, e) refl
 
-    pub samples-read : r ≡ true → withSamples verb fields (exactlyOf n (wordsFrom line at))
-        ≡ some (record { verb = verb; fields = fields; samples = room })
+    pub samples-read : r ≡ true → withSamples verb fields list (exactlyOf n (wordsFrom line at))
+        ≡ some (record { verb = verb; fields = fields; list = list; samples = room })
     unfolding withSamples
     samples-read e = rw (h, e) refl

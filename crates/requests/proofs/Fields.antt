@@ -74,11 +74,14 @@ module _ (kinds line : List ℕ) (at : ℕ) where
   begun fields = none-before (fieldsOf kinds (wordsFrom line at))
 
   module _ (fields : List ℕ) (next i : ℕ) (reading : Reading fields next i) where
-    pub ended : i ≡ length kinds → Limited kinds fields → Fields kinds line at fields (At next)
+    pub all-read : i ≡ length kinds → fieldsOf kinds (wordsFrom line at) ≡ some (take i fields, wordsFrom line next)
     unfolding fieldsOf
-    ended e within =
+    all-read e =
         let none-left : drop i kinds ≡ [] = drop-of-length-le kinds {i = i} (omega arith) in
-        record { read = sym reading ∙ rw (none-left, append-nil, e) refl; within = λ after q. within }
+        sym reading ∙ rw (none-left, append-nil) refl
+
+    pub ended : i ≡ length kinds → Limited kinds fields → Fields kinds line at fields (At next)
+    ended e within = record { read = rw e at (all-read e); within = λ after q. within }
 
     malformed : behind (take i fields) (fieldsOf (drop i kinds) (wordsFrom line next)) ≡ none
         → Fields kinds line at fields Malformed

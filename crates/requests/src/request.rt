@@ -1,4 +1,4 @@
-// The fields of a request: numbers before the samples, each by its kind, and then the samples.
+// A request behind its verb: fields, each a number by its kind, then the list of a verb that has one, then the samples.
 use crate::words::word_end;
 use numerals::number::Natural;
 use numerals::number::Sample;
@@ -6,13 +6,13 @@ use numerals::number::read_bits;
 use numerals::number::read_natural;
 use numerals::number::read_sample;
 use verbs::Verb;
-ghost use mathlib.Core.Bool.{cond};
+ghost use mathlib.Core.Bool.{true, cond};
 ghost use mathlib.Core.Option.{none, some};
 ghost use mathlib.Core.Path.{_≡_};
 ghost use Prim.Native.Nat.{_≤_};
 ghost use lib.ListN.{length};
-ghost use Rattle.requests.specs.Request.{limitOf, fieldOf, kindsOf, exactlyOf};
-ghost use Rattle.requests.specs.Inner.Cursors.{wordsFrom, Fields, Counted};
+ghost use Rattle.requests.specs.Request.{limitOf, fieldOf, kindsOf, fieldsOf, hasList, listKinds, exactlyOf};
+ghost use Rattle.requests.specs.Inner.Cursors.{wordsFrom, Fields, fieldsAt, Counted, Listed};
 
 // The cursor after some fields, or that one of them is malformed.
 pub enum Place {
@@ -64,7 +64,7 @@ fn read_fields(line: &[u8], at: usize, kinds: &[u8], fields: &mut [u64]) -> Plac
     Place::At(next)
 }
 
-// The fields of a verb before N:
+// The fields of a verb before its list or N:
 //   transform: LOG2W LOG2H
 //   quantise: COMPONENT LOG2 QP LAMBDA FLAGS, COSTS
 //   subblock: LOG2 RUN QPY LAMBDAY QPU LAMBDAU QPV LAMBDAV FLAGS, COSTS
@@ -72,6 +72,8 @@ fn read_fields(line: &[u8], at: usize, kinds: &[u8], fields: &mut [u64]) -> Plac
 //   inverse: LOG2W LOG2H
 //   guarded: those of subblock up to FLAGS, DARKERY DARKERU DARKERV LIGHTERY LIGHTERU LIGHTERV, COSTS
 //   measure: LOG2 QP FLAGS RESIDUALS
+//   write: LOG2
+//   read: LOG2
 pub fn read_head(verb: Verb, line: &[u8], at: usize, fields: &mut [u64; 48]) -> Place
     ensures { λ r. ⌜ Fields (kindsOf verb) (now (line .entry)) at (now (fields .exit)) r ⌝ }
 {
@@ -88,26 +90,88 @@ pub fn read_head(verb: Verb, line: &[u8], at: usize, fields: &mut [u64; 48]) -> 
             fields,
         ),
         Verb::Measure => read_fields(line, at, b"wiiw", fields),
+        Verb::Write => read_fields(line, at, b"w", fields),
+        Verb::Read => read_fields(line, at, b"w", fields),
     }
 }
 
-// How many samples follow, and the cursor after that number.
+// How many numbers or samples follow, and the cursor after them.
 pub enum Count {
     Of(usize, usize),
     Malformed,
 }
 
-pub fn read_count(line: &[u8], at: usize) -> Count
-    ensures { λ r. ⌜ Counted (now (line .entry)) at r ⌝ }
+// The number itself, at most `most`, and the cursor after it.
+pub fn read_count(line: &[u8], at: usize, most: u64) -> Count
+    ensures { λ r. ⌜ Counted most (now (line .entry)) at r ⌝ }
 {
     if line.len() < at {
         return Count::Malformed;
     }
     let end = word_end(line, at);
-    let Natural::Is(n) = read_natural(&line[at..end], 8192) else {
+    let Natural::Is(n) = read_natural(&line[at..end], most) else {
         return Count::Malformed;
     };
     Count::Of(n as usize, end + 1)
+}
+
+// K numbers of 32 bits, from the cursor `at` on.
+fn read_numbers(line: &[u8], at: usize, k: usize, room: &mut [u32]) -> Place
+    requires { ⌜ k ≤ length (now room) ⌝ }
+    ensures { λ r. ⌜ fieldsOf (listKinds k) (wordsFrom (now (line .entry)) at)
+        ≡ fieldsAt (now (line .entry)) (now (room .exit)) k r ⌝ }
+{
+    let mut next = at;
+    let mut i = 0;
+    while i < k {
+        if line.len() < next {
+            return Place::Malformed;
+        }
+        let end = word_end(line, next);
+        let Natural::Is(v) = read_field(&line[next..end], b'i') else {
+            return Place::Malformed;
+        };
+        room[i] = v as u32;
+        next = end + 1;
+        i += 1;
+    }
+    Place::At(next)
+}
+
+// K and the list behind it: K is at most 4,096, as N is then 0.
+fn read_listed(line: &[u8], at: usize, room: &mut [u32]) -> Count
+    requires { ⌜ length (now room) ≡ 4096 ⌝ }
+    ensures { λ r. ⌜ Listed true (now (line .entry)) at (now (room .exit)) r ⌝ }
+{
+    let Count::Of(k, first) = read_count(line, at, 4096) else {
+        return Count::Malformed;
+    };
+    let Place::At(next) = read_numbers(line, first, k, room) else {
+        return Count::Malformed;
+    };
+    Count::Of(k, next)
+}
+
+// Whether a verb has a list.
+pub fn has_list(verb: Verb) -> bool
+    ensures { λ r. ⌜ r ≡ hasList verb ⌝ }
+{
+    match verb {
+        Verb::Write => true,
+        Verb::Read => true,
+        _ => false,
+    }
+}
+
+// The list of a verb that has one; that of any other is empty.
+pub fn read_list(verb: Verb, line: &[u8], at: usize, room: &mut [u32]) -> Count
+    requires { ⌜ length (now room) ≡ 4096 ⌝ }
+    ensures { λ r. ⌜ Listed (hasList verb) (now (line .entry)) at (now (room .exit)) r ⌝ }
+{
+    if has_list(verb) {
+        return read_listed(line, at, room);
+    }
+    Count::Of(0, at)
 }
 
 // Whether exactly as many samples follow as there is room for.

@@ -7,6 +7,7 @@ use crate::scans::Scans;
 ghost use mathlib.Core.Path.{_≡_};
 ghost use Prim.Native.Nat.{_≤_, _<_, _*_, _^_};
 ghost use lib.ListN.{length, getD, set};
+ghost use Rattle.integers.specs.Sum.{at};
 ghost use Rattle.refusals.specs.Sides.{mostLog2};
 ghost use Rattle.scan.specs.Scan.{mostPlaces, scan, scanAt, squareScan, squareScans};
 
@@ -91,4 +92,21 @@ pub fn put_magnitude(magnitudes: &mut [u16], place: BlockPlace, value: u16)
 {
     let at = place.0;
     magnitudes[at] = value;
+}
+
+// The same of levels, by rows.
+pub fn level_at(levels: &[i16], place: BlockPlace) -> i16
+    requires { ⌜ place .0 < length (now levels) ⌝ }
+    ensures { λ r. ⌜ r ≡ at (now (levels .entry)) (place .0) ⌝ }
+{
+    let i = place.0;
+    levels[i]
+}
+
+pub fn put_level(levels: &mut [i16], place: BlockPlace, value: i16)
+    requires { ⌜ place .0 < length (now levels) ⌝ }
+    ensures { λ _. ⌜ now (levels .exit) ≡ set (now (levels .entry)) (place .0) value ⌝ }
+{
+    let i = place.0;
+    levels[i] = value;
 }

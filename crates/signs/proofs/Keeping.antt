@@ -18,6 +18,7 @@ use Rattle.integers.specs.Sum.{at}
 use Rattle.integers.proofs.Lists.{map-at}
 use Rattle.scan.specs.Scan.{scan, scanAt}
 use Rattle.scan.proofs.OneToOne.{scan-inside}
+use Rattle.scan.specs.Order.{inOrder}
 use Rattle.price.specs.Level.{scaled, nearest}
 use Rattle.price.specs.Price.{uncoded}
 use Rattle.price.proofs.Lighter.{Stands, Lighter}
@@ -26,7 +27,7 @@ use Rattle.weights.specs.declared.prices.Prices.{Prices}
 use Rattle.scaling.specs.Inner.Scale.{Sound}
 use Rattle.weights.specs.Inner.Prices.{ruleBy}
 use Rattle.weights.specs.Inner.Places.{keptPlaces, Scanned}
-use Rattle.signs.specs.Inner.Signs.{keptOf, inOrder}
+use Rattle.signs.specs.Inner.Signs.{keptOf}
 use Rattle.scaling.proofs.Scaling.{nearest-of-0}
 use Rattle.weights.proofs.Places.{nothing-uncoded}
 

@@ -15,11 +15,12 @@ use Rattle.integers.proofs.Lists.{map-at}
 use Rattle.scan.specs.Scan.{scan, scanAt}
 use Rattle.scan.proofs.OneToOne.{scan-inside}
 use Rattle.scan.proofs.Order.{scan-hit}
+use Rattle.scan.specs.Order.{laid, inOrder}
+use Rattle.scan.proofs.Laid.{laid-length, laid-on-scan}
 use Rattle.price.specs.Level.{signed}
-use Rattle.coding.specs.Block.{signs, laid}
+use Rattle.coding.specs.Block.{signs}
 use Rattle.weights.specs.Inner.Places.{Scanned, Standing}
-use Rattle.signs.specs.Inner.Signs.{inOrder}
-use Rattle.coding.proofs.Laid.{signs-length, signs-at, laid-length, laid-on-scan}
+use Rattle.coding.proofs.Signed.{signs-length, signs-at}
 
 -- ---- the levels by rows
 -- the loop before place i: levels in front, coefficients behind

@@ -13,6 +13,7 @@ use lib.IntN.{ℤ}
 use lib.Ieee.{nan}
 use Rattle.refusals.specs.declared.Component.{Component}
 use Rattle.refusals.specs.declared.Component.the-variants.{Y, U, «V»}
+use Rattle.runs.specs.Call.{Write, writing, writeAnswer, writeList, Read, reading, readVerdict, readBuffer}
 use Rattle.transform.specs.Call.{called, transVerdict}
 use Rattle.tables.specs.Scales.{back}
 use Rattle.decoding.specs.Call.{ScaleBack, levelsLent, scaleVerdict, scaleBuffer}
@@ -27,7 +28,7 @@ use Rattle.components.specs.Call as three
 use Rattle.heights.specs.Call.{Measure, lent, measureAnswer}
 use Rattle.guarding.specs.Call.{GuardedBlock, guardedRequest, guardedAnswer, guardedBuffer}
 use Rattle.surface.specs.Surface.{resultOf, quantAsked, quantWritten, threeAsked, threeWritten}
-use Rattle.surface.specs.Surface.{guardedAsked, guardedWritten, measureWritten}
+use Rattle.surface.specs.Surface.{guardedAsked, guardedWritten, measureWritten, writeWritten}
 
 -- run, level, last and cbf
 abbrev costs : List ℕ
@@ -222,3 +223,50 @@ pub measure :
     × Measures (lent five (p 1 ∷ p 2 ∷ p 3 ∷ []) 1 63) 5 (0 ∷ 0 ∷ [])
 unfolding measureAnswer back
 measure = ((refl, refl), (refl, refl), (refl, refl), (refl, refl), (refl, refl), (refl, refl))
+
+-- ---- symbols written, of 4×4 with a surplus behind the block and behind the list, and of an empty block; refused with
+-- 1, 5 and 6, and with 10 where the list is one place short
+abbrev Writes : Write → ℕ → (written after : List ℕ) → Type 0
+Writes w result written after =
+    (resultOf (writeAnswer w) ≡ result) × (writeWritten (writeAnswer w) ≡ written) × (writeList w ≡ after)
+
+abbrev sixteen : (surplus : ℤ) → List ℤ
+sixteen surplus =
+    p 0 ∷ m 3 ∷ p 0 ∷ p 0 ∷ p 7 ∷ p 0 ∷ p 0 ∷ p 32767 ∷ p 0 ∷ p 0 ∷ p 0 ∷ p 0 ∷ m 1 ∷ p 0 ∷ p 0 ∷ p 0 ∷ surplus ∷ []
+
+abbrev told : List ℕ
+told = 33557505 ∷ 7168 ∷ 33555462 ∷ 100662274 ∷ []
+
+pub write-symbols :
+    Writes (writing (sixteen (p 5)) 2 (9 ∷ 8 ∷ 7 ∷ 6 ∷ 5 ∷ [])) 0 (4 ∷ []) (told ++ (5 ∷ []))
+    × Writes (writing (block (p 0) (p 0) (p 0) (p 0)) 1 (4 ∷ [])) 0 (0 ∷ []) (4 ∷ [])
+    × Writes (writing (m 32768 ∷ []) 6 (7 ∷ [])) 1 (0 ∷ []) (7 ∷ [])
+    × Writes (writing (m 32768 ∷ []) 1 (7 ∷ [])) 5 (0 ∷ []) (7 ∷ [])
+    × Writes (writing (block (p 1) (p 0) (m 32768) (p 0)) 1 (7 ∷ [])) 6 (0 ∷ []) (7 ∷ [])
+    × Writes (writing (sixteen (p 5)) 2 (9 ∷ 8 ∷ 7 ∷ [])) 10 (0 ∷ []) (9 ∷ 8 ∷ 7 ∷ [])
+unfolding writeAnswer writeList
+write-symbols = (
+  (refl, refl, refl),
+  (refl, refl, refl),
+  (refl, refl, refl),
+  (refl, refl, refl),
+  (refl, refl, refl),
+  (refl, refl, refl),
+)
+
+-- ---- symbols read, the same over other levels, and none; refused with 1 and 5, and with 11 where the last is missing
+abbrev Reads : Read → ℕ → List ℤ → Type 0
+Reads r result after = (resultOf (readVerdict r) ≡ result) × (readBuffer r ≡ after)
+
+abbrev before : List ℤ
+before =
+    m 9 ∷ p 8 ∷ m 7 ∷ p 6 ∷ m 5 ∷ p 4 ∷ m 3 ∷ p 2 ∷ m 1 ∷ p 0 ∷ p 1 ∷ m 2 ∷ p 3 ∷ m 4 ∷ p 5 ∷ m 6 ∷ p 77 ∷ []
+
+pub read-symbols :
+    Reads (reading told before 2) 0 (sixteen (p 77))
+    × Reads (reading [] (block (p 1) (p 2) (p 3) (p 4)) 1) 0 (block (p 0) (p 0) (p 0) (p 0))
+    × Reads (reading (0 ∷ []) (p 7 ∷ []) 0) 1 (p 7 ∷ [])
+    × Reads (reading (0 ∷ []) (p 7 ∷ []) 1) 5 (p 7 ∷ [])
+    × Reads (reading (33557505 ∷ 7168 ∷ 33555462 ∷ []) before 2) 11 before
+unfolding readVerdict readBuffer
+read-symbols = ((refl, refl), (refl, refl), (refl, refl), (refl, refl), (refl, refl))

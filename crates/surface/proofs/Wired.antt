@@ -7,6 +7,9 @@ use Rattle.refusals.specs.declared.Refusal.{Refusal}
 use Rattle.refusals.specs.declared.Component.{Component}
 use Rattle.refusals.specs.Numbers.{numberOf, componentOf}
 use Rattle.refusals.specs.Faults.{Outcome, refused}
+use Rattle.runs.specs.declared.WriteAnswer.{WriteAnswer}
+use Rattle.runs.specs.declared.WriteAnswer.the-variants as writes
+use Rattle.runs.specs.Call as write
 use Rattle.coding.specs.declared.Coded.{Coded}
 use Rattle.coding.specs.declared.QuantAnswer.{QuantAnswer}
 use Rattle.coding.specs.declared.QuantAnswer.the-variants as quantised
@@ -23,6 +26,7 @@ use Rattle.guarding.specs.declared.GuardedAnswer.{GuardedAnswer}
 use Rattle.guarding.specs.declared.GuardedAnswer.the-variants as guardeds
 use Rattle.guarding.specs.Call as guard
 use Rattle.surface.specs.Surface.{resultOf, quantWritten, threeWritten, guardedWritten, measureWritten}
+use Rattle.surface.specs.Surface.{writeWritten}
 
 module _ (a : QuantAnswer) (o : Outcome Coded) (e : quant.quantOutcome a ≡ o) where
   pub quant-coded : (c : Coded) → a ≡ quantised.Coded c → (0 ≡ resultOf o)
@@ -65,3 +69,7 @@ module _ (a : MeasureAnswer) (o : Outcome Extremes) (e : height.measureOutcome a
   pub measured : (x : Extremes) → a ≡ measures.Measured x
       → (0 ≡ resultOf o) × (x .darker ∷ x .lighter ∷ [] ≡ measureWritten o)
   measured x f = let h = ap height.measureOutcome (sym f) ∙ e in (ap resultOf h, ap measureWritten h)
+
+module _ (a : WriteAnswer) (o : Outcome ℕ) (e : write.writeOutcome a ≡ o) where
+  pub wrote : (n : ℕ) → a ≡ writes.Written n → (0 ≡ resultOf o) × (n ∷ [] ≡ writeWritten o)
+  wrote n f = let h = ap write.writeOutcome (sym f) ∙ e in (ap resultOf h, ap writeWritten h)

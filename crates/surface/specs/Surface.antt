@@ -10,6 +10,7 @@ use lib.IntN.{ℤ}
 use lib.ListN.{getD}
 use Rattle.refusals.specs.declared.Component.{Component}
 use Rattle.refusals.specs.Faults.{Outcome, accepted, refused}
+use Rattle.runs.specs.Call.{Write, writeAnswer, writeList, Read, readVerdict, readBuffer}
 use Rattle.transform.specs.Call.{Trans, transVerdict, transBuffer}
 use Rattle.decoding.specs.Call.{ScaleBack, scaleVerdict, scaleBuffer, Inverse, inverseVerdict, inverseBuffer}
 use Rattle.price.specs.declared.Settings.{Settings}
@@ -45,8 +46,8 @@ codedIn flags = eqb (flags / 2 % 2) 1
 abbrev pub modeIn : ℕ → Mode
 modeIn flags = cond (eqb (flags / 4 % 2) 1) Least Walk
 
--- ---- the transform, scaling back and the inverse transform, which answer a verdict alone: their result and their
--- block, by the call's verdict and what it leaves
+-- ---- the transform, scaling back, the inverse transform and the reader of symbols, which answer a verdict alone:
+-- their result and their block, by the call's verdict and what it leaves
 pub record VerdictLeft (verdict : Outcome Unit) (buffer : List ℤ) (r : ℕ) (block : List ℤ) : Type 0 where
   pub result : r ≡ resultOf verdict
   pub left : block ≡ buffer
@@ -59,6 +60,9 @@ ScaleLeft s r block = VerdictLeft (scaleVerdict s) (scaleBuffer s) r block
 
 abbrev pub InverseLeft : Inverse → (r : ℕ) → (block : List ℤ) → Type 0
 InverseLeft t r block = VerdictLeft (inverseVerdict t) (inverseBuffer t) r block
+
+abbrev pub ReadLeft : Read → (r : ℕ) → (block : List ℤ) → Type 0
+ReadLeft c r block = VerdictLeft (readVerdict c) (readBuffer c) r block
 
 -- ---- the quantiser
 abbrev pub codingBy : Component → (log2 qp : ℕ) → Float → (flags : ℕ) → Coding
@@ -155,3 +159,14 @@ measureWritten (refused number component) = 0 ∷ 0 ∷ []
 pub record MeasureLeft (m : Measure) (r : ℕ) (answer : List ℕ) : Type 0 where
   pub result : r ≡ resultOf (measureAnswer m)
   pub written : answer ≡ measureWritten (measureAnswer m)
+
+-- ---- the writer of symbols: its answer is how many it wrote
+abbrev pub writeWritten : Outcome ℕ → List ℕ
+writeWritten (accepted count) = count ∷ []
+writeWritten (refused number component) = 0 ∷ []
+
+-- what it leaves: result, answer and list
+pub record WriteLeft (w : Write) (r : ℕ) (answer list : List ℕ) : Type 0 where
+  pub result : r ≡ resultOf (writeAnswer w)
+  pub written : answer ≡ writeWritten (writeAnswer w)
+  pub left : list ≡ writeList w

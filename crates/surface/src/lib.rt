@@ -15,14 +15,16 @@ use refusals::Component;
 use refusals::Verdict;
 use refusals::component_number;
 use refusals::number;
+use runs::WriteAnswer;
 ghost use mathlib.Core.Path.{_≡_};
 ghost use Rattle.refusals.specs.Faults.{verdictOutcome};
+ghost use Rattle.runs.specs.Call.{writeOutcome};
 ghost use Rattle.coding.specs.Call.{quantOutcome};
 ghost use Rattle.components.specs.Call.{subBlockOutcome};
 ghost use Rattle.heights.specs.Call.{measureOutcome};
 ghost use Rattle.guarding.specs.Call.{guardedOutcome};
 ghost use Rattle.surface.specs.Surface.{resultOf, modeIn, codingBy, quantWritten, requestBy, threeWritten};
-ghost use Rattle.surface.specs.Surface.{heightsBy, guardedWritten, measureWritten};
+ghost use Rattle.surface.specs.Surface.{heightsBy, guardedWritten, measureWritten, writeWritten};
 
 // What a call that answers a verdict alone has said, as its result.
 pub fn result_of(verdict: Verdict) -> u32
@@ -194,6 +196,23 @@ pub fn put_measure(measured: MeasureAnswer, answer: &mut [u64; 2]) -> u32
         }
         MeasureAnswer::Refused(why) => {
             *answer = [0, 0];
+            number(why)
+        }
+    }
+}
+
+// What the writer of symbols answered, as its result and its answer.
+pub fn put_write(written: WriteAnswer, answer: &mut [u64; 1]) -> u32
+    ensures result { λ r. ⌜ r ≡ resultOf (writeOutcome written) ⌝ }
+    ensures answer { λ _. ⌜ now (answer .exit) ≡ writeWritten (writeOutcome written) ⌝ }
+{
+    match written {
+        WriteAnswer::Written(count) => {
+            *answer = [count as u64];
+            0
+        }
+        WriteAnswer::Refused(why) => {
+            *answer = [0];
             number(why)
         }
     }

@@ -11,6 +11,8 @@ pub enum Verb {
     Inverse,
     Guarded,
     Measure,
+    Write,
+    Read,
 }
 
 pub enum Named {
@@ -41,6 +43,12 @@ pub fn read_verb(word: &[u8]) -> Named
     }
     if same(word, b"measure") {
         return Named::Is(Verb::Measure);
+    }
+    if same(word, b"write") {
+        return Named::Is(Verb::Write);
+    }
+    if same(word, b"read") {
+        return Named::Is(Verb::Read);
     }
     Named::Malformed
 }

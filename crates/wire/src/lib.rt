@@ -11,13 +11,15 @@ use surface::put_guarded;
 use surface::put_measure;
 use surface::put_quant;
 use surface::put_three;
+use surface::put_write;
 use surface::request_of;
 use surface::result_of;
 use transform::trans;
+ghost use Rattle.runs.specs.Call.{writing, reading};
 ghost use Rattle.transform.specs.Call.{called};
 ghost use Rattle.decoding.specs.Call.{levelsLent, coefficientsLent};
 ghost use Rattle.heights.specs.Call.{lent};
-ghost use Rattle.surface.specs.Surface.{TransLeft, ScaleLeft, InverseLeft, MeasureLeft};
+ghost use Rattle.surface.specs.Surface.{TransLeft, ScaleLeft, InverseLeft, MeasureLeft, WriteLeft, ReadLeft};
 ghost use Rattle.surface.specs.Surface.{quantAsked, QuantLeft, threeAsked, ThreeLeft, guardedAsked, GuardedLeft};
 
 pub fn transform(block: &mut [i16], log2_w: usize, log2_h: usize) -> u32
@@ -105,4 +107,22 @@ pub fn measure(
         r (now (answer .exit)) ⌝ }
 {
     put_measure(measure::measure(residuals, levels, log2_side, qp), answer)
+}
+
+pub fn write_symbols(
+    block: &[i16],
+    log2_side: usize,
+    list: &mut [u32],
+    answer: &mut [u64; 1],
+) -> u32
+    ensures { λ r. ⌜ WriteLeft (writing (now (block .entry)) «log2_side» (now (list .entry)))
+        r (now (answer .exit)) (now (list .exit)) ⌝ }
+{
+    put_write(symbols::write_symbols(block, log2_side, list), answer)
+}
+
+pub fn read_symbols(list: &[u32], block: &mut [i16], log2_side: usize) -> u32
+    ensures { λ r. ⌜ ReadLeft (reading (now (list .entry)) (now (block .entry)) «log2_side») r (now (block .exit)) ⌝ }
+{
+    result_of(symbols::read_symbols(list, block, log2_side))
 }

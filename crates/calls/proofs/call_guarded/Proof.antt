@@ -71,7 +71,7 @@ returns c =
     let heights = allowed .heights-in in
     let call = made .galemosu-guarded-sub-block in
     let w = call .last .1 .1 .1 .1 .1 .1 .1 .1 .0 in
-    replied (call .result) (getD w 0 0) 12 (guardedNumbers w) _ (call .last .0) _ _ (c .reply-guarded .ensures)
+    replied (call .result) (getD w 0 0) 12 (guardedNumbers w) _ _ (call .last .0) _ _ (c .reply-guarded .ensures)
     (omega arith) (call .kept .0)
     (guarded-shown (asked (stepped .qps-of .result) (lambda .result) (costs .result) (heights .result)) _ _ _
     (call .ensures)

@@ -81,7 +81,7 @@ returns c =
     take-all rest (drop n samples) (omega (arith, length-drop n samples)) in
     let call = made .galemosu-measure in
     let w = call .last .1 .1 .1 .1 .1 .0 in
-    replied (call .result) 0 2 (getD w 0 0 ∷ getD w 1 0 ∷ zeros 10) samples samples _ _ (c .reply-by .ensures)
+    replied (call .result) 0 2 (getD w 0 0 ∷ getD w 1 0 ∷ zeros 10) samples _ samples _ _ (c .reply-by .ensures)
     (omega arith) refl
     (measure-shown (asked (take n samples) (take rest (drop n samples))) _ _ samples (call .ensures)
     ∙ ap (λ (r : List ℤ). measureText (asked r (take rest (drop n samples))) samples) (p .front)

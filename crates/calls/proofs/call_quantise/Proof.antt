@@ -74,7 +74,7 @@ returns c =
     let costs = copied .costs-from in
     let call = made .quantise-by in
     let w = call .last .1 .1 .1 .1 .1 .1 .1 .0 in
-    replied (call .result) (getD w 0 0) 2 (getD w 1 0 ∷ getD w 2 0 ∷ zeros 10) _ (call .last .1 .0) _ _
+    replied (call .result) (getD w 0 0) 2 (getD w 1 0 ∷ getD w 2 0 ∷ zeros 10) _ _ (call .last .1 .0) _ _
     (c .reply-by .ensures) (omega arith) (call .kept .1 .0)
     (quant-shown (asked (scaled .double-of .result) (costs .result)) _ _ _ (call .ensures)
     ∙ ap (λ (lambda : Float). quantText (asked lambda (costs .result))) (scaled .double-of .ensures)

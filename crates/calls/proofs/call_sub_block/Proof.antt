@@ -86,7 +86,7 @@ returns c =
     let call = made .galemosu-sub-block in
     let w = call .last .1 .1 .1 .1 .1 .1 .1 .0 in
     replied (call .result) (getD w 0 0) 6
-    (getD w 1 0 ∷ getD w 4 0 ∷ getD w 2 0 ∷ getD w 5 0 ∷ getD w 3 0 ∷ getD w 6 0 ∷ zeros 6) _ (call .last .0) _ _
+    (getD w 1 0 ∷ getD w 4 0 ∷ getD w 2 0 ∷ getD w 5 0 ∷ getD w 3 0 ∷ getD w 6 0 ∷ zeros 6) _ _ (call .last .0) _ _
     (c .reply-by .ensures) (omega arith) (call .kept .0)
     (three-shown (asked (stepped .qps-of .result) (lambda .result) (costs .result)) _ _ _ (call .ensures)
     ∙ ap (λ (qp : List ℕ). threeText (asked qp (lambda .result) (costs .result))) (stepped .qps-of .ensures)

@@ -1,8 +1,9 @@
--- What a call made for a request asks of the fields, and what it leaves: a reply and a buffer, whose text is the
--- request's answer.
+-- What a call made for a request asks of the fields, and what it leaves: a reply, a list, if it has one, and a buffer,
+-- whose text is the request's answer.
 use mathlib.Core.Path.{_≡_}
 use mathlib.Core.Bool.{true, false, cond}
 use mathlib.Core.List.{List, [], _∷_}
+use mathlib.Core.Option.{Option}
 use Prim.Native.Nat.{ℕ, _≤_}
 use lib.Dec.{eqb}
 use lib.IntN.{ℤ}
@@ -35,8 +36,9 @@ replyBy result component count numbers =
     cond (eqb result 0) (record { accepted = true; count = count; numbers = numbers })
     (record { accepted = false; count = 2; numbers = result ∷ component ∷ zeros 10 })
 
--- the answer's text by a reply and its samples, and that both fit their room
-pub record Replied (text : List ℕ) (before : List ℤ) (r : Reply) (after : List ℤ) : Type 0 where
-  pub is : replyText (r .accepted) (take (r .count) (r .numbers)) after ≡ text
+-- the answer's text by a reply, its list and its samples, and that the reply's numbers and the samples fit their room
+pub record Replied (text : List ℕ) (before : List ℤ) (r : Reply) (list : Option (List ℕ)) (after : List ℤ) :
+    Type 0 where
+  pub is : replyText (r .accepted) (take (r .count) (r .numbers)) list after ≡ text
   pub few : r .count ≤ 12
   pub kept : length after ≡ length before

@@ -7,6 +7,7 @@ use lib.ListN.{length}
 use lib.IntN.{ℤ}
 use Rattle.integers.specs.Sum.{at}
 use Rattle.scan.specs.Scan.{scan}
+use Rattle.scan.specs.Order.{inOrder, laid}
 use Rattle.price.specs.Level.{scaled}
 use Rattle.price.specs.Price.{uncoded, nonzeros, price}
 use Rattle.scaling.specs.declared.scale.Scale.{Scale}
@@ -15,10 +16,9 @@ use Rattle.scaling.specs.Inner.Scale.{Sound}
 use Rattle.weights.specs.Inner.Prices.{Modest, Fine, ruleBy}
 use Rattle.weights.specs.Inner.Places.{Cleared}
 use Rattle.coefficients.specs.Inner.Coefficients.{Within}
-use Rattle.signs.specs.Inner.Signs.{inOrder}
 use Rattle.coding.specs.declared.Coded.{Coded}
 use Rattle.coding.specs.declared.Mode.{Mode}
-use Rattle.coding.specs.Block.{writtenIn, signs, laid}
+use Rattle.coding.specs.Block.{writtenIn, signs}
 
 -- rooms that have the block's length, and no level yet
 pub record Lent (block : List ℤ) (scan kept levels : List ℕ) : Type 0 where

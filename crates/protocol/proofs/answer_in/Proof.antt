@@ -16,7 +16,7 @@ returns : tie.Need-returns
 unfolding answerTo
 returns c =
     let test = c .before .before in
-    let start = test .before .before in
+    let start = test .before .before .before in
     retold (ap answerOf (too-long (start .args .line .now) (test .if1 .taken))) (c .put-malformed .ensures)
 
 word-end-requires : tie.Need-word-end-requires
@@ -62,11 +62,14 @@ answer-verb-requires c κs = search needs
 same-length : tie.Need-same-length
 same-length c = search needs
 
+same-length-2 : tie.Need-same-length-2
+same-length-2 c = search needs
+
 returns-3 : tie.Need-returns-3
 unfolding answerTo
 returns-3 c =
-    let answered = c .before in
-    let lent = answered .before .before in
+    let answered = c .before .before .before in
+    let lent = answered .before .before .before in
     let known = lent .before .before in
     let read = known .before .before in
     let word = ended read in
@@ -92,4 +95,5 @@ answer-in-spec =
     add-answer-verb
     answer-verb-requires
     same-length
+    same-length-2
     returns-3)

@@ -1,36 +1,37 @@
--- `protocol::answer_verb` meets its contract: fields and N are read as the definition reads them, and N is within the
--- room.
+-- `protocol::answer_verb` meets its contract: fields and list are read as the definition reads them, and the list is in
+-- front of its room.
 -- Assumes nothing.
 use mathlib.Core.Path.{_≡_, sym, ap, _∙_}
-use Prim.Native.Nat.{_≤_}
+use mathlib.Core.List.{List}
+use Prim.Native.Nat.{ℕ, _≤_}
 use native.Mathlib.Omega.{arith}
 use borrow.Author.Needs.{needs}
 use lib.ListN.{length, take}
 use lib.Seq.{length-take-le}
-use Rattle.requests.proofs.Asked.{fields-malformed, fields-read, count-malformed, count-read}
+use Rattle.requests.proofs.Asked.{fields-malformed, fields-read, list-malformed, list-read}
 use Rattle.protocol.specs.Answer.{answerOf}
-use Rattle.protocol.proofs.Retold.{retold, so-many}
+use Rattle.protocol.proofs.Retold.{retold}
 use Rattle.protocol.proofs.answer_verb.Statement.{statement}
 use Rattle.protocol.proofs.answer_verb.Tie as tie
 
--- how the number of samples was come to: its word was read, behind the fields, which were read first
-abbrev headed : tie.After-count → tie.After-read-head
+-- how the list was come to: it was read behind the fields, which were read first
+abbrev headed : tie.After-behind → tie.After-read-head
 headed c = c .before .before
 
-abbrev counted : tie.After-n → tie.After-read-count
-counted c = c .before .before
+abbrev listed : tie.After-k → tie.After-read-list
+listed c = let known = c .before .before in known .before .before
 
-abbrev placed : tie.After-read-count → tie.After-count
-placed c = c .before .before
+abbrev placed : tie.After-read-list → tie.After-behind
+placed c = c .before .before .before
 
-abbrev began : tie.After-n → tie.Start
-began c = let head = headed (placed (counted c)) in head .before .before .before
+abbrev began : tie.After-k → tie.Start
+began c = let head = headed (placed (listed c)) in let known = head .before .before in known .before .before
 
 read-head-requires : tie.Need-read-head-requires
 read-head-requires c κs = search needs
 
-enum-known-count : tie.Need-enum-known-count
-enum-known-count c = search needs
+enum-known-behind : tie.Need-enum-known-behind
+enum-known-behind c = search needs
 
 enum-told : tie.Need-enum-told
 enum-told c = search needs
@@ -45,11 +46,11 @@ returns c =
     retold (ap answerOf (fields-malformed _ _ _ _ _ (head .read-head .ensures) (told .enum-told .given .1)))
     (c .put-malformed .ensures)
 
-read-count-requires : tie.Need-read-count-requires
-read-count-requires c κs = search needs
+read-list-requires : tie.Need-read-list-requires
+read-list-requires c κs = search needs
 
-enum-known-n : tie.Need-enum-known-n
-enum-known-n c = search needs
+enum-known-k : tie.Need-enum-known-k
+enum-known-k c = search needs
 
 enum-told-2 : tie.Need-enum-told-2
 enum-told-2 c = search needs
@@ -57,74 +58,90 @@ enum-told-2 c = search needs
 put-malformed-requires-2 : tie.Need-put-malformed-requires-2
 put-malformed-requires-2 c κs = search needs
 
-returns-2 : tie.Need-returns-2
-returns-2 c =
-    let told = c .before .before in
-    let read = told .before .before in
-    let place = placed read in
-    retold
-    (ap answerOf
-    (fields-read _ _ _ _ _ (headed place .read-head .ensures) _ (place .count .given .1)
-    ∙ count-malformed _ _ _ _ _ (read .read-count .ensures) (told .enum-told2 .given .1)))
-    (c .put-malformed2 .ensures)
-
--- N is within the room, so that the room for the samples has just N
-within : (c : tie.After-n) → c .n .given .0 .0 ≤ length (began c .args .room .now)
-within c = omega (arith, began c .pre, counted c .read-count .ensures .few _ _ (c .n .given .1))
-
-taken : (c : tie.After-n) → length (take (c .n .given .0 .0) (began c .args .room .now)) ≡ c .n .given .0 .0
-taken c = length-take-le _ _ (within c)
-
-slice-relend-prefix-answer-call : tie.Need-slice-relend-prefix-answer-call
-slice-relend-prefix-answer-call c = within (c .before)
-
-slice-aggregate-answer-call : tie.Need-slice-aggregate-answer-call
-slice-aggregate-answer-call c = sym (taken (c .before .before))
-
--- the number of samples, which was come to before the room and the fields were lent
-abbrev lent : tie.After-answer-call-arg2 → tie.After-n
-lent c = let room = c .before .before in room .before .before
-
-answer-call-requires : tie.Need-answer-call-requires
-answer-call-requires c κs =
-    let n = lent c in
-    let place = placed (counted n) in (
-      omega (arith, taken n, counted n .read-count .ensures .few _ _ (n .n .given .1)),
-      headed place .read-head .ensures .within _ (place .count .given .1),
-    )
-
 same-length : tie.Need-same-length
 same-length c = search needs
 
-returns-3 : tie.Need-returns-3
-returns-3 c =
-    let answered = c .before in
-    let n = lent (answered .before) in
-    let read = counted n in
+returns-2 : tie.Need-returns-2
+returns-2 c =
+    let told = c .before .before in
+    let known = told .before .before in
+    let read = known .before .before in
     let place = placed read in
     retold
     (ap answerOf
-    (fields-read _ _ _ _ _ (headed place .read-head .ensures) _ (place .count .given .1)
-    ∙ count-read _ _ _ _ _ (read .read-count .ensures) _ _ (n .n .given .1)
-    ∙ so-many _ _ _ (sym (taken n))))
-    (answered .answer-call .ensures)
+    (fields-read _ _ _ _ _ (headed place .read-head .ensures) _ (place .behind .given .1)
+    ∙ list-malformed _ _ _ _ _ _ (read .read-list .ensures) (told .enum-told2 .given .1)))
+    (c .put-malformed2 .ensures)
+
+-- the room for the list as it was left; K is within it, so that the list has just K numbers
+abbrev left : tie.After-k → List ℕ
+left c = listed c .read-list .last .1 .1 .1 .0
+
+room : (c : tie.After-k) → length (left c) ≡ 4096
+room c = listed c .read-list .kept .1 .1 .1 .0 ∙ began c .pre .1
+
+few : (c : tie.After-k) → c .k .given .0 .0 ≤ 4096
+few c = listed c .read-list .ensures .few _ _ (c .k .given .1)
+
+within : (c : tie.After-k) → c .k .given .0 .0 ≤ length (left c)
+within c = omega (arith, few c, room c)
+
+taken : (c : tie.After-k) → length (take (c .k .given .0 .0) (left c)) ≡ c .k .given .0 .0
+taken c = length-take-le _ _ (within c)
+
+slice-relend-prefix-answer-list : tie.Need-slice-relend-prefix-answer-list
+slice-relend-prefix-answer-list c = within (c .before .before)
+
+slice-aggregate-answer-list : tie.Need-slice-aggregate-answer-list
+slice-aggregate-answer-list c = sym (taken (c .before .before .before))
+
+-- K, which was read before the list and the fields were lent
+abbrev lent : tie.After-answer-list-arg3 → tie.After-k
+lent c = let list = c .before .before in list .before .before .before
+
+answer-list-requires : tie.Need-answer-list-requires
+answer-list-requires c κs =
+    let k = lent c in
+    let place = placed (listed k) in
+    let head = headed place .read-head in
+    (began k .pre .0, omega (arith, few k, taken k), head .ensures .within _ (place .behind .given .1))
+
+same-length-2 : tie.Need-same-length-2
+same-length-2 c = search needs
+
+same-length-3 : tie.Need-same-length-3
+same-length-3 c = search needs
+
+returns-3 : tie.Need-returns-3
+returns-3 c =
+    let answered = c .before .before .before in
+    let k = lent (answered .before) in
+    let read = listed k in
+    let place = placed read in
+    retold
+    (ap answerOf
+    (fields-read _ _ _ _ _ (headed place .read-head .ensures) _ (place .behind .given .1)
+    ∙ list-read _ _ _ _ _ _ (read .read-list .ensures) _ _ (k .k .given .1)))
+    (answered .answer-list .ensures)
 
 pub answer-verb-spec : {M : Type 1} → statement M
 answer-verb-spec =
     tie.close
     (tie.spec
     read-head-requires
-    enum-known-count
+    enum-known-behind
     enum-told
     put-malformed-requires
     returns
-    read-count-requires
-    enum-known-n
+    read-list-requires
+    enum-known-k
     enum-told-2
     put-malformed-requires-2
-    returns-2
-    slice-relend-prefix-answer-call
-    slice-aggregate-answer-call
-    answer-call-requires
     same-length
+    returns-2
+    slice-relend-prefix-answer-list
+    slice-aggregate-answer-list
+    answer-list-requires
+    same-length-2
+    same-length-3
     returns-3)

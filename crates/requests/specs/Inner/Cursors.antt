@@ -1,7 +1,7 @@
 -- A line's words by cursors: what is read from a cursor on, as the numbers read and the words that are left. A cursor
 -- past the line's end has no words left.
 use mathlib.Core.Path.{_≡_}
-use mathlib.Core.Bool.{cond}
+use mathlib.Core.Bool.{Bool, cond}
 use mathlib.Core.List.{List, [], _∷_}
 use mathlib.Core.Option.{Option, none, some}
 use Prim.Native.Nat.{ℕ, suc, _+_, _-_, _≤_}
@@ -12,7 +12,7 @@ use Rattle.requests.specs.declared.request.Count.the-variants as counts
 use Rattle.requests.specs.declared.request.Place.{Place}
 use Rattle.requests.specs.declared.request.Place.the-variants as places
 use Rattle.requests.specs.Words.{wordsOf}
-use Rattle.requests.specs.Request.{fieldsOf, countOf, Limited}
+use Rattle.requests.specs.Request.{fieldsOf, countOf, listOf, Limited}
 
 -- how many bytes stand before the first space
 unfoldable pub untilSpace : List ℕ → ℕ
@@ -41,11 +41,20 @@ pub record Fields (kinds line : List ℕ) (at : ℕ) (fields : List ℕ) (r : Pl
   pub read : fieldsOf kinds (wordsFrom line at) ≡ fieldsAt line fields (length kinds) r
   pub within : (next : ℕ) → r ≡ places.At next → Limited kinds fields
 
--- ---- N
+-- ---- K and N
 abbrev pub countAt : List ℕ → Count → Option (ℕ × List (List ℕ))
 countAt line (counts.Of n next) = some (n, wordsFrom line next)
 countAt line counts.Malformed = none
 
-pub record Counted (line : List ℕ) (at : ℕ) (r : Count) : Type 0 where
-  pub read : countOf (wordsFrom line at) ≡ countAt line r
-  pub few : (n next : ℕ) → r ≡ counts.Of n next → n ≤ 8192
+pub record Counted (most : ℕ) (line : List ℕ) (at : ℕ) (r : Count) : Type 0 where
+  pub read : countOf most (wordsFrom line at) ≡ countAt line r
+  pub few : (n next : ℕ) → r ≡ counts.Of n next → n ≤ most
+
+-- ---- a list, in front of its room
+abbrev pub listAt : List ℕ → List ℕ → Count → Option (List ℕ × List (List ℕ))
+listAt line room (counts.Of k next) = some (take k room, wordsFrom line next)
+listAt line room counts.Malformed = none
+
+pub record Listed (has : Bool) (line : List ℕ) (at : ℕ) (room : List ℕ) (r : Count) : Type 0 where
+  pub read : listOf has (wordsFrom line at) ≡ listAt line room r
+  pub few : (k next : ℕ) → r ≡ counts.Of k next → k ≤ 4096

@@ -1,14 +1,13 @@
--- What is kept of the coefficients of a block, by rows, and the coefficients in the order in which their levels are
--- chosen: what the functions that read and write the block say to the ones that choose.
+-- What is kept of the coefficients of a block, by rows: what the functions that read and write the block say to the
+-- ones that choose.
 use mathlib.Core.Path.{_≡_}
 use mathlib.Core.Bool.{cond}
-use mathlib.Core.List.{List, map}
+use mathlib.Core.List.{List}
 use Prim.Native.Nat.{ℕ, _<_}
 use lib.Dec.{leb}
 use lib.ListN.{length, getD}
 use lib.IntN.{ℤ, natAbs}
 use Rattle.integers.specs.Sum.{at}
-use Rattle.scan.specs.Scan.{scan}
 use Rattle.price.specs.Price.{nonzeros}
 use Rattle.scaling.specs.declared.scale.Scale.{Scale}
 
@@ -21,7 +20,3 @@ pub record KeptAs (g : Scale) (block : List ℤ) (kept : List ℕ) (r : ℕ) : T
   pub room : length kept ≡ length block
   pub each : (k : ℕ) → k < length block → getD kept k 0 ≡ keptOf g (at block k)
   pub count : r ≡ nonzeros kept
-
--- the coefficients in scan order
-abbrev pub inOrder : (w h : ℕ) → List ℤ → List ℤ
-inOrder w h block = map (λ p. at block p) (scan w h)

@@ -11,13 +11,13 @@ use lib.IntN.{ℤ}
 use Rattle.refusals.specs.Sides.{mostLog2}
 use Rattle.tables.specs.Scales.{back}
 use Rattle.scan.specs.Scan.{scan}
+use Rattle.scan.specs.Order.{inOrder, laid}
 use Rattle.price.specs.Level.{nearest}
 use Rattle.price.specs.Price.{nonzeros, price}
 use Rattle.scaling.specs.declared.scale.Scale.{Scale}
 use Rattle.weights.specs.Inner.Prices.{ruleBy}
 use Rattle.weights.specs.Inner.Places.{Scanned}
-use Rattle.signs.specs.Inner.Signs.{inOrder}
-use Rattle.coding.specs.Block.{signs, laid}
+use Rattle.coding.specs.Block.{signs}
 use Rattle.finished.specs.Inner.Finished.{placesOf, Priceable}
 use Rattle.heights.specs.declared.Extremes.{Extremes}
 use Rattle.heights.specs.Extremes.{extremes, within}

@@ -5,7 +5,8 @@ use mathlib.Core.Bool.{false}
 use mathlib.Core.List.{List}
 use Prim.Native.Nat.{ℕ}
 use borrow.Author.Needs.{needs}
-use Rattle.verbs.specs.declared.Verb.the-variants.{Transform, Quantise, SubBlock, ScaleBack, Inverse, Guarded}
+use Rattle.verbs.specs.declared.Verb.the-variants.{Transform, Quantise, SubBlock, ScaleBack, Inverse}
+use Rattle.verbs.specs.declared.Verb.the-variants.{Guarded, Measure, Write}
 use Rattle.verbs.specs.Verbs.{wordOf, sameBytes, verbOf}
 use Rattle.verbs.proofs.Apart.{compared}
 use Rattle.verbs.proofs.read_verb.Statement.{statement}
@@ -31,6 +32,12 @@ fourth c = c .before .before .before
 abbrev fifth : tie.Else6 → tie.Else5
 fifth c = c .before .before .before
 
+abbrev sixth : tie.Else7 → tie.Else6
+sixth c = c .before .before .before
+
+abbrev seventh : tie.Else8 → tie.Else7
+seventh c = c .before .before .before
+
 -- what was said to those that were passed
 no-transform : (c : tie.Else1) → sameBytes (word c) (wordOf Transform) ≡ false
 no-transform c = let s = c .before .same .ensures in compared _ _ _ (s .0) (s .1) ∙ c .if1 .left
@@ -49,6 +56,15 @@ no-inverse c = let s = c .before .same5 .ensures in compared _ _ _ (s .0) (s .1)
 
 no-guarded : (c : tie.Else6) → sameBytes (word (first (second (third (fourth (fifth c)))))) (wordOf Guarded) ≡ false
 no-guarded c = let s = c .before .same6 .ensures in compared _ _ _ (s .0) (s .1) ∙ c .if6 .left
+
+no-measure :
+    (c : tie.Else7) → sameBytes (word (first (second (third (fourth (fifth (sixth c))))))) (wordOf Measure) ≡ false
+no-measure c = let s = c .before .same7 .ensures in compared _ _ _ (s .0) (s .1) ∙ c .if7 .left
+
+no-write :
+    (c : tie.Else8)
+    → sameBytes (word (first (second (third (fourth (fifth (sixth (seventh c)))))))) (wordOf Write) ≡ false
+no-write c = let s = c .before .same8 .ensures in compared _ _ _ (s .0) (s .1) ∙ c .if8 .left
 
 slice-aggregate-same : tie.Need-slice-aggregate-same
 slice-aggregate-same c = search needs
@@ -169,20 +185,69 @@ returns-7 c =
       c .if7 .taken,
     )
 
+slice-aggregate-same-8 : tie.Need-slice-aggregate-same-8
+slice-aggregate-same-8 c = search needs
+
+same-requires-8 : tie.Need-same-requires-8
+same-requires-8 c κs = search needs
+
 returns-8 : tie.Need-returns-8
 unfolding verbOf
 returns-8 c =
     let passed = c .before .before .before in
-    let s = c .before .same7 .ensures in
+    let s = c .before .same8 .ensures in
     rw (
-      no-transform (first (second (third (fourth (fifth passed))))),
-      no-quantise (second (third (fourth (fifth passed)))),
-      no-sub-block (third (fourth (fifth passed))),
-      no-scale-back (fourth (fifth passed)),
-      no-inverse (fifth passed),
-      no-guarded passed,
+      no-transform (first (second (third (fourth (fifth (sixth passed)))))),
+      no-quantise (second (third (fourth (fifth (sixth passed))))),
+      no-sub-block (third (fourth (fifth (sixth passed)))),
+      no-scale-back (fourth (fifth (sixth passed))),
+      no-inverse (fifth (sixth passed)),
+      no-guarded (sixth passed),
+      no-measure passed,
       compared _ _ _ (s .0) (s .1),
-      c .if7 .left,
+      c .if8 .taken,
+    )
+
+slice-aggregate-same-9 : tie.Need-slice-aggregate-same-9
+slice-aggregate-same-9 c = search needs
+
+same-requires-9 : tie.Need-same-requires-9
+same-requires-9 c κs = search needs
+
+returns-9 : tie.Need-returns-9
+unfolding verbOf
+returns-9 c =
+    let passed = c .before .before .before in
+    let s = c .before .same9 .ensures in
+    rw (
+      no-transform (first (second (third (fourth (fifth (sixth (seventh passed))))))),
+      no-quantise (second (third (fourth (fifth (sixth (seventh passed)))))),
+      no-sub-block (third (fourth (fifth (sixth (seventh passed))))),
+      no-scale-back (fourth (fifth (sixth (seventh passed)))),
+      no-inverse (fifth (sixth (seventh passed))),
+      no-guarded (sixth (seventh passed)),
+      no-measure (seventh passed),
+      no-write passed,
+      compared _ _ _ (s .0) (s .1),
+      c .if9 .taken,
+    )
+
+returns-10 : tie.Need-returns-10
+unfolding verbOf
+returns-10 c =
+    let passed = c .before .before .before in
+    let s = c .before .same9 .ensures in
+    rw (
+      no-transform (first (second (third (fourth (fifth (sixth (seventh passed))))))),
+      no-quantise (second (third (fourth (fifth (sixth (seventh passed)))))),
+      no-sub-block (third (fourth (fifth (sixth (seventh passed))))),
+      no-scale-back (fourth (fifth (sixth (seventh passed)))),
+      no-inverse (fifth (sixth (seventh passed))),
+      no-guarded (sixth (seventh passed)),
+      no-measure (seventh passed),
+      no-write passed,
+      compared _ _ _ (s .0) (s .1),
+      c .if9 .left,
     )
 
 pub read-verb-spec : {M : Type 1} → statement M
@@ -210,4 +275,10 @@ read-verb-spec =
     slice-aggregate-same-7
     same-requires-7
     returns-7
-    returns-8)
+    slice-aggregate-same-8
+    same-requires-8
+    returns-8
+    slice-aggregate-same-9
+    same-requires-9
+    returns-9
+    returns-10)

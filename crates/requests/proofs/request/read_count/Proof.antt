@@ -1,4 +1,4 @@
--- `requests::request::read_count` meets its contract: N is the word at the cursor.
+-- `requests::request::read_count` meets its contract: the number is the word at the cursor.
 -- Assumes nothing.
 use mathlib.Core.Path.{sym, _∙_}
 use borrow.Author.Needs.{needs}
@@ -7,7 +7,7 @@ use Rattle.requests.proofs.request.read_count.Statement.{statement}
 use Rattle.requests.proofs.request.read_count.Tie as tie
 
 returns : tie.Need-returns
-returns c = no-word _ _ (c .if1 .taken)
+returns c = no-word _ _ _ (c .if1 .taken)
 
 word-end-requires : tie.Need-word-end-requires
 word-end-requires c κs = search needs
@@ -38,17 +38,17 @@ returns-2 : tie.Need-returns-2
 returns-2 c =
     let read = c .before .before in
     let word = ended read in
-    no-number _ _ _ (word .before .if1 .left) (word .word-end .ensures .2)
+    no-number _ _ _ _ (word .before .if1 .left) (word .word-end .ensures .2)
     (sym (read .read-natural .ensures) ∙ c .enum-told .given .1)
 
-add-t11 : tie.Need-add-t11
-add-t11 c = search needs
+add-t12 : tie.Need-add-t12
+add-t12 c = search needs
 
 returns-3 : tie.Need-returns-3
 returns-3 c =
     let read = c .before .before .before in
     let word = ended read in
-    a-number _ _ _ (word .before .if1 .left) (word .word-end .ensures .2) _
+    a-number _ _ _ _ (word .before .if1 .left) (word .word-end .ensures .2) _
     (sym (read .read-natural .ensures) ∙ c .before .n .given .1)
 
 pub read-count-spec : {M : Type 1} → statement M
@@ -64,5 +64,5 @@ read-count-spec =
     enum-known-n
     enum-told
     returns-2
-    add-t11
+    add-t12
     returns-3)

@@ -71,6 +71,24 @@ slice-aggregate-read-fields-7 c = search needs
 read-fields-requires-7 : tie.Need-read-fields-requires-7
 read-fields-requires-7 c κs = search needs
 
+enum-told-8 : tie.Need-enum-told-8
+enum-told-8 c = search needs
+
+slice-aggregate-read-fields-8 : tie.Need-slice-aggregate-read-fields-8
+slice-aggregate-read-fields-8 c = search needs
+
+read-fields-requires-8 : tie.Need-read-fields-requires-8
+read-fields-requires-8 c κs = search needs
+
+enum-told-9 : tie.Need-enum-told-9
+enum-told-9 c = search needs
+
+slice-aggregate-read-fields-9 : tie.Need-slice-aggregate-read-fields-9
+slice-aggregate-read-fields-9 c = search needs
+
+read-fields-requires-9 : tie.Need-read-fields-requires-9
+read-fields-requires-9 c κs = search needs
+
 returns : tie.Need-returns
 returns c = rw (c .before .before .before .enum-told .given .1) (c .read-fields .ensures)
 
@@ -91,6 +109,12 @@ returns-6 c = rw (c .before .before .before .enum-told6 .given .1) (c .read-fiel
 
 returns-7 : tie.Need-returns-7
 returns-7 c = rw (c .before .before .before .enum-told7 .given .1) (c .read-fields7 .ensures)
+
+returns-8 : tie.Need-returns-8
+returns-8 c = rw (c .before .before .before .enum-told8 .given .1) (c .read-fields8 .ensures)
+
+returns-9 : tie.Need-returns-9
+returns-9 c = rw (c .before .before .before .enum-told9 .given .1) (c .read-fields9 .ensures)
 
 pub read-head-spec : {M : Type 1} → statement M
 read-head-spec =
@@ -117,10 +141,18 @@ read-head-spec =
     enum-told-7
     slice-aggregate-read-fields-7
     read-fields-requires-7
+    enum-told-8
+    slice-aggregate-read-fields-8
+    read-fields-requires-8
+    enum-told-9
+    slice-aggregate-read-fields-9
+    read-fields-requires-9
     returns
     returns-2
     returns-3
     returns-4
     returns-5
     returns-6
-    returns-7)
+    returns-7
+    returns-8
+    returns-9)

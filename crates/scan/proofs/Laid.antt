@@ -1,38 +1,22 @@
 -- What a buffer holds once values were laid at block places: at each place met its value, and elsewhere what it held.
--- The places of a scan are met once each, and lie inside the block, so that the surplus is not touched. And the signs
--- put to a list of magnitudes, which are then laid, and read back.
+-- The places of a scan are met once each, and lie inside the block, so that the surplus is not touched; and where it
+-- meets all of them, a block's values in scan order, laid, are the block.
 -- Assumes nothing.
 use mathlib.Core.Path.{_≡_, refl, sym, ap, _∙_}
 use mathlib.Core.Logic.{_≢_}
-use mathlib.Core.List.{List, [], _∷_, map}
+use mathlib.Core.List.{List, [], _∷_, _++_, map}
 use Prim.Native.Nat.{ℕ, zero, suc, _+_, _-_, _*_, _≤_, _<_}
 use native.Mathlib.Nat.{not-suc-le-zero, le-of-suc-le-suc}
 use native.Mathlib.Omega.{arith}
-use lib.ListN.{length, getD, set, length-set, length-map, drop, length-drop}
-use lib.Seq.{getD-set-same, getD-set-other, getD-drop, ext-getD}
-use lib.IntN.{ℤ, pos, natAbs}
+use lib.ListN.{length, getD, set, length-set, length-map, take, drop, length-drop, take-append-drop}
+use lib.Seq.{getD-set-same, getD-set-other, getD-drop, getD-take, ext-getD, length-take-le}
+use lib.IntN.{ℤ, pos}
 use Rattle.integers.specs.Sum.{at}
 use Rattle.integers.proofs.Lists.{map-at}
 use Rattle.scan.specs.Scan.{scan, scanAt}
+use Rattle.scan.specs.Order.{inOrder, laid}
 use Rattle.scan.proofs.OneToOne.{scan-inside, scan-apart}
-use Rattle.price.specs.Level.{signed}
-use Rattle.price.proofs.Level.{signed-magnitude}
-use Rattle.coding.specs.Block.{signs, laid}
-
--- ---- signs put to the magnitudes of a list
-pub signs-length : (cs : List ℤ) (ms : List ℕ) → length ms ≡ length cs → length (signs cs ms) ≡ length cs
-unfolding signs
-signs-length [] ms e = refl
-signs-length (c ∷ cs) [] e = absurd (let z : ⊥ = omega arith in z)
-signs-length (c ∷ cs) (m ∷ ms) e = ap suc (signs-length cs ms (omega arith))
-
-pub signs-at : (cs : List ℤ) (ms : List ℕ) (k : ℕ) → length ms ≡ length cs → k < length cs
-    → at (signs cs ms) k ≡ signed (at cs k) (getD ms k 0)
-unfolding signs
-signs-at [] ms k e h = absurd (not-suc-le-zero h)
-signs-at (c ∷ cs) [] k e h = absurd (let z : ⊥ = omega arith in z)
-signs-at (c ∷ cs) (m ∷ ms) zero e h = refl
-signs-at (c ∷ cs) (m ∷ ms) (suc k) e h = signs-at cs ms k (omega arith) (le-of-suc-le-suc h)
+use Rattle.scan.proofs.Order.{scan-hit}
 
 -- ---- values laid
 pub laid-length : (ps : List ℕ) (vs l : List ℤ) → length (laid ps vs l) ≡ length l
@@ -84,22 +68,6 @@ module _ (w h : ℕ) (hw : 1 ≤ w) (hh : 1 ≤ h) where
   laid-on-scan vs l p e b q =
       laid-at (scan w h) vs l p scan-meets-once e q (omega (arith, scan-inside w h hw hh p q))
 
-  -- the magnitudes of what is laid, in scan order, are those that were signed
-  pub laid-magnitudes : (cs : List ℤ) (ms : List ℕ) (l : List ℤ) → length ms ≡ length cs
-      → length cs ≡ length (scan w h)
-      → w * h ≤ length l
-      → map (λ p. natAbs (at (laid (scan w h) (signs cs ms) l) p)) (scan w h) ≡ ms
-  unfolding scanAt
-  laid-magnitudes cs ms l e full b =
-      let n = length-map (scan w h) (λ p. natAbs (at (laid (scan w h) (signs cs ms) l) p)) in
-      ext-getD 0 (map (λ p. natAbs (at (laid (scan w h) (signs cs ms) l) p)) (scan w h)) ms (n ∙ sym full ∙ sym e)
-      (λ p lt.
-      map-at 0 0 (λ p. natAbs (at (laid (scan w h) (signs cs ms) l) p)) (scan w h) p (omega (arith, n))
-      ∙ ap natAbs
-      (laid-on-scan (signs cs ms) l p (signs-length cs ms e ∙ full) b (omega (arith, n))
-      ∙ signs-at cs ms p e (omega (arith, n)))
-      ∙ signed-magnitude (at cs p) (getD ms p 0))
-
   pub surplus-kept : (vs l : List ℤ) → drop (w * h) (laid (scan w h) vs l) ≡ drop (w * h) l
   unfolding scanAt
   surplus-kept vs l =
@@ -110,3 +78,39 @@ module _ (w h : ℕ) (hw : 1 ≤ w) (hh : 1 ≤ h) where
       ∙ laid-elsewhere (scan w h) vs l (w * h + i)
       (λ k lk q. let b = scan-inside w h hw hh k lk in let no : ⊥ = omega arith in no)
       ∙ sym (getD-drop (w * h) l i (pos 0)))
+
+  -- what was laid, in scan order
+  pub laid-in-order : (vs l : List ℤ) → length vs ≡ length (scan w h) → w * h ≤ length l
+      → inOrder w h (laid (scan w h) vs l) ≡ vs
+  unfolding scanAt
+  laid-in-order vs l e b =
+      let n = length-map (scan w h) (λ p. at (laid (scan w h) vs l) p) in
+      ext-getD (pos 0) (inOrder w h (laid (scan w h) vs l)) vs (n ∙ sym e)
+      (λ p lt.
+      map-at 0 (pos 0) (λ p. at (laid (scan w h) vs l) p) (scan w h) p (omega (arith, n))
+      ∙ laid-on-scan vs l p e b (omega (arith, n)))
+
+  -- a block's values in scan order, laid into a buffer: the block, and the buffer's surplus
+  pub order-laid : (block l : List ℤ) → length (scan w h) ≡ w * h → w * h ≤ length block → w * h ≤ length l
+      → laid (scan w h) (inOrder w h block) l ≡ take (w * h) block ++ drop (w * h) l
+  unfolding scanAt
+  order-laid block l full a b =
+      let vs = inOrder w h block in
+      let held = laid (scan w h) vs l in
+      let many : length vs ≡ length (scan w h) = length-map (scan w h) (λ p. at block p) in
+      let room = laid-length (scan w h) vs l in
+      let front : take (w * h) held ≡ take (w * h) block =
+      ext-getD (pos 0) (take (w * h) held) (take (w * h) block)
+      (length-take-le (w * h) held (omega (arith, room)) ∙ sym (length-take-le (w * h) block a))
+      (λ i lt.
+      let li : i < w * h = omega (arith, lt, length-take-le (w * h) held (omega (arith, room))) in
+      let s = scan-hit w h hw hh full i li in
+      getD-take (w * h) held i (pos 0) li
+      ∙ ap (at held) (sym (s .2))
+      ∙ laid-on-scan vs l (s .0) many b (omega (arith, s .1))
+      ∙ map-at 0 (pos 0) (λ p. at block p) (scan w h) (s .0) (omega (arith, s .1))
+      ∙ ap (at block) (s .2)
+      ∙ sym (getD-take (w * h) block i (pos 0) li)) in
+      sym (take-append-drop (w * h) held)
+      ∙ ap (λ (x : List ℤ). x ++ drop (w * h) held) front
+      ∙ ap (λ (x : List ℤ). take (w * h) block ++ x) (surplus-kept vs l)

@@ -1,0 +1,11 @@
+pub mod Amiss
+pub mod Packing
+pub mod Misread
+pub mod RoundTrip
+pub mod Places
+pub mod Writing
+pub mod Reading
+pub mod Calls
+pub mod Empty
+pub mod Coincide
+pub mod Numbers

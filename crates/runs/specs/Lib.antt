@@ -1,0 +1,4 @@
+pub mod Packing
+pub mod Runs
+pub mod Call
+pub mod Inner
