@@ -1,6 +1,6 @@
-"""Document 01, document 02's viewer's half and second mode (its tickets 6 and 9), the guarded block and the line
-protocol in Python's whole numbers, sentence by sentence. It shares nothing with the crates, and stands in for nothing
-of theirs: recorded answers and the label's expected text are held against it.
+"""Document 01, document 02's run list, viewer's half and second mode (its tickets 1, 6 and 9), the guarded block and
+the line protocol in Python's whole numbers, sentence by sentence. It shares nothing with the crates, and stands in for
+nothing of theirs: recorded answers and the label's expected text are held against it.
 
     python3 tools/paper.py < requests     an answer line for each request line
 
@@ -40,11 +40,13 @@ class Costs:
 
 
 class Words:
-    """The words of a request, taken one by one. `buffer` holds the samples, for a refusal's answer."""
+    """The words of a request, taken one by one. `buffer` holds the samples and `listed` the symbols, where there is a
+    list of them, for a refusal's answer."""
     WHOLE, BITS, LONGEST_LINE, MOST_SAMPLES = rb"0|-?[1-9][0-9]*", rb"[0-9a-f]{16}", 65535, 8192
 
     def __init__(self, line):
-        self.words, self.at, self.buffer = self.split(line) if len(line) <= self.LONGEST_LINE else [], 0, []
+        self.words, self.at = self.split(line) if len(line) <= self.LONGEST_LINE else [], 0
+        self.buffer, self.listed = [], None
 
     def split(self, line):
         return line.split(b" ")
@@ -86,8 +88,19 @@ class Words:
     def sample(self):
         return self.whole(-32768, 32767)
 
+    def symbol(self):
+        return self.whole(0, 2 ** 32 - 1)
+
+    def symbols(self):
+        self.listed = [self.symbol() for _ in range(self.whole(0, self.MOST_SAMPLES))]
+        return self.listed
+
+    def most_samples(self):
+        """A symbol takes the room of two."""
+        return self.MOST_SAMPLES - 2 * len(self.listed or [])
+
     def samples(self):
-        self.buffer = [self.sample() for _ in range(self.whole(0, self.MOST_SAMPLES))]
+        self.buffer = [self.sample() for _ in range(self.whole(0, self.most_samples()))]
         self.end()
         return self.buffer
 
@@ -456,6 +469,79 @@ class Paper:
         """15 behind 9 of the same component."""
         return late + [(15, component, lambda: fits() is None)]
 
+    # ---- the run list: a symbol for each nonzero level in scan order
+    def packed(self, run, magnitude, negative, last):
+        """The run lowest, 10 bits of it; 15 bits of magnitude, one for the sign, one for the last mark."""
+        return run | magnitude << 10 | negative << 25 | last << 26
+
+    def unpacked(self, symbol):
+        return symbol & 1023, symbol >> 10 & 32767, symbol >> 25 & 1, symbol >> 26 & 1
+
+    def unused(self, symbol):
+        return symbol >> 27
+
+    def in_scan_order(self, buffer, log2):
+        return [buffer[p] for p in self.scan(1 << log2)]
+
+    def by_rows(self, levels, log2):
+        """Levels in scan order, laid where they belong."""
+        out = [0] * len(levels)
+        for p, level in zip(self.scan(1 << log2), levels):
+            out[p] = level
+        return out
+
+    def run_before(self, places, i):
+        """The zeros before a level: of the scan places of the nonzero ones, and which of them it is."""
+        return places[i] - places[i - 1] - 1 if i else places[0]
+
+    def is_last(self, places, i):
+        return i == len(places) - 1
+
+    def symbols_of(self, levels):
+        """Of levels in scan order."""
+        places = [p for p, level in enumerate(levels) if level]
+        return [self.packed(self.run_before(places, i), abs(levels[p]), levels[p] < 0, self.is_last(places, i))
+                for i, p in enumerate(places)]
+
+    def symbol_count(self, levels):
+        return sum(level != 0 for level in levels)
+
+    def filled(self, symbols, made):
+        """A list with the symbols made in front: the places behind them don't change."""
+        return made + symbols[len(made):]
+
+    def levels_of(self, symbols, n):
+        """The levels that symbols tell, in scan order."""
+        levels, p = [0] * n, -1
+        for symbol in symbols:
+            run, magnitude, negative, _ = self.unpacked(symbol)
+            p += run + 1
+            levels[p] = -magnitude if negative else magnitude
+        return levels
+
+    def zero_magnitude(self, symbols):
+        return any(self.unpacked(symbol)[1] == 0 for symbol in symbols)
+
+    def unused_bits(self, symbols):
+        return any(self.unused(symbol) for symbol in symbols)
+
+    def past_the_block(self, symbols, n):
+        """Each symbol takes its run and a place."""
+        return sum(self.unpacked(symbol)[0] + 1 for symbol in symbols) > n
+
+    def missing_mark(self, marks):
+        """The last symbol has none; an empty list has nothing to mark."""
+        return marks != [] and not marks[-1]
+
+    def behind_a_mark(self, marks):
+        """A symbol stands after a last mark."""
+        return any(marks[:-1])
+
+    def symbol_fault(self, symbols, n):
+        marks = [self.unpacked(symbol)[3] for symbol in symbols]
+        return (self.zero_magnitude(symbols) or self.unused_bits(symbols) or self.past_the_block(symbols, n)
+                or self.missing_mark(marks) or self.behind_a_mark(marks))
+
     # ---- refusals: a test is a number, a component and a question; the first that says yes is given
     def ordered(self, tests):
         return tests
@@ -482,6 +568,13 @@ class Paper:
 
     def coefficient_fault(self, coefficients):
         return any(c < -self.COEFFICIENT for c in coefficients)
+
+    def level_fault(self, levels):
+        """No symbol has room for its magnitude."""
+        return -32768 in levels
+
+    def room_fault(self, symbols, levels):
+        return len(symbols) < self.symbol_count(levels)
 
     def late_tests(self, component, block):
         """7, 8 and 9; `block` is asked for only when 1 to 6 have passed."""
@@ -633,6 +726,27 @@ class Paper:
     def not_run(self, residuals):
         return 0, 0, residuals
 
+    def write(self, buffer, log2, symbols):
+        """The number of symbols, and the list."""
+        n = self.places(log2, log2)
+        self.first_fault([
+            (1, 0, lambda: self.side_fault(log2, self.LEAST_SIDE)),
+            (5, 0, lambda: len(buffer) < n),
+            (6, 0, lambda: self.level_fault(self.sampled(buffer, n))),
+            (10, 0, lambda: self.room_fault(symbols, buffer[:n])),
+        ])
+        made = self.symbols_of(self.in_scan_order(buffer, log2))
+        return self.symbol_count(buffer[:n]), self.filled(symbols, made)
+
+    def read(self, symbols, buffer, log2):
+        n = self.places(log2, log2)
+        self.first_fault([
+            (1, 0, lambda: self.side_fault(log2, self.LEAST_SIDE)),
+            (5, 0, lambda: len(buffer) < n),
+            (11, 0, lambda: self.symbol_fault(symbols, n)),
+        ])
+        return self.by_rows(self.levels_of(symbols, n), log2) + buffer[n:]
+
     # ---- the line protocol
     # the bits of FLAGS
     SLICE, CODED, LEAST = 0, 1, 2
@@ -660,7 +774,11 @@ class Paper:
             return b"malformed"
         except Refused as refused:
             head, buffer = b"refused %d %d :" % (refused.number, refused.component), words.buffer
+            head = head if words.listed is None else self.with_list(head, words.listed)
         return b" ".join([head] + [b"%d" % v for v in buffer])
+
+    def with_list(self, head, symbols):
+        return b" ".join([head] + [b"%d" % symbol for symbol in symbols] + [b":"])
 
     def answered(self, words):
         verb = words.word()
@@ -700,6 +818,13 @@ class Paper:
         if verb == b"inverse":
             lw, lh = words.log2(), words.log2()
             return b"accepted :", self.inverse(words.samples(), lw, lh)
+        if verb == b"write":
+            log2, symbols, levels = words.log2(), words.symbols(), words.samples()
+            count, after = self.write(levels, log2, symbols)
+            return self.with_list(b"accepted %d :" % count, after), levels
+        if verb == b"read":
+            log2, symbols, buffer = words.log2(), words.symbols(), words.samples()
+            return self.with_list(b"accepted :", symbols), self.read(symbols, buffer, log2)
         raise Malformed
 
 

@@ -2,16 +2,16 @@
 
 A wrong port is tools/paper.py with one rule changed. Each answers the stored requests of `tq`; printed are how many
 answers it gets wrong (counted to 10, with --all to the end) of those made by hand and of those drawn by chance, and the
-request that catches it first. A port that is wrong in the second mode alone, in the viewer's half alone, or in the
-guarded call and measure alone, is asked requests of these alone. With WORDS, only ports whose names have one of them.
-Status 1 if a wrong port is caught by neither, or if the paper itself, or a port that can't differ, gets an answer
-wrong.
+request that catches it first. A port that is wrong in the second mode alone, in the viewer's half alone, in the guarded
+call and measure alone, or in the run list alone, is asked requests of these alone. With WORDS, only ports whose names
+have one of them. Status 1 if a wrong port is caught by neither, or if the paper itself, or a port that can't differ,
+gets an answer wrong.
 """
 import copy, fractions, functools, itertools, math, multiprocessing, os, struct, sys
 from paper import Block, Costs, Malformed, Paper, Refused, U, V, Words, Y, products_back
 import vectors
 from vectors import by_hand
-from vectors.lines import CODED, FLAGS_AT, LEAST, SLICE, is_guarded, is_least, is_viewers
+from vectors.lines import CODED, FLAGS_AT, LEAST, SLICE, is_guarded, is_least, is_symbols, is_viewers
 
 HERE = os.path.dirname(os.path.dirname(os.path.abspath(__file__)))
 PORTS, EQUAL = [], []
@@ -1236,6 +1236,437 @@ for verb in (b"guarded", b"measure"):
     guards("%s not read" % verb.decode(), answered=read_as(verb, b"malformed"))
 
 
+# ---- the run list
+def lists(name, **rules):
+    PORTS.append(type("run list: " + name, (Paper,), {**rules, "asked": staticmethod(is_symbols)}))
+
+
+def list_reader(name, **rules):
+    """The paper with a reader of lines that differs in these methods."""
+    lists(name, Words=type("Words", (Words,), rules))
+
+
+def at_bits(run, magnitude, sign, last):
+    """The fields from these bits on, in both calls."""
+    return {"packed": lambda s, r, m, n, l: r << run | m << magnitude | n << sign | l << last,
+            "unpacked": lambda s, u: (u >> run & 1023, u >> magnitude & 32767, u >> sign & 1, u >> last & 1)}
+
+
+def by_columns_of(scan):
+    """A scan with rows and columns exchanged."""
+    side = math.isqrt(len(scan))
+    return [p % side * side + p // side for p in scan]
+
+
+def laid_along(scan):
+    """Read levels laid by another scan, of the model's."""
+    def by_rows(paper, levels, log2):
+        out = [0] * len(levels)
+        for p, level in zip(scan(paper.scan(1 << log2)), levels):
+            out[p] = level
+        return out
+    return by_rows
+
+
+def levels_within(paper, symbols, n):
+    """What lies past the block dropped."""
+    far = sum(paper.unpacked(symbol)[0] + 1 for symbol in symbols)
+    return Paper.levels_of(paper, symbols, max(n, far))[:n]
+
+
+def places_taken(wrong):
+    """Refused by another test of the runs, and what lies past the block dropped."""
+    return {"past_the_block": lambda s, symbols, n: wrong([s.unpacked(u)[0] for u in symbols], n),
+            "levels_of": levels_within}
+
+
+def up_to_the_mark(paper, symbols):
+    marks = [paper.unpacked(symbol)[3] for symbol in symbols]
+    return symbols[:marks.index(1) + 1] if 1 in marks else symbols
+
+
+def without_zeros_behind(symbols):
+    return symbols[:max((i + 1 for i, symbol in enumerate(symbols) if symbol), default=0)]
+
+
+def some_symbols(test, chosen):
+    """A test of some of the symbols alone."""
+    return {test: lambda s, symbols, *of: getattr(Paper, test)(s, chosen(symbols), *of)}
+
+
+def all_but_bit(bit):
+    return lambda paper, symbol: Paper.unused(paper, symbol & ~(1 << bit))
+
+
+def filled_when_refused(number):
+    """What there is room for is written, up to a level of -32768, and then refused."""
+    def write(paper, buffer, log2, symbols):
+        try:
+            return Paper.write(paper, buffer, log2, symbols)
+        except Refused as refused:
+            if refused.number == number:
+                front = list(itertools.takewhile(lambda v: v != -32768, paper.in_scan_order(buffer, log2)))
+                made = paper.symbols_of(front)[:len(symbols)]
+                symbols[:len(made)] = made
+            raise
+    return write
+
+
+def read_when_refused(paper, symbols, buffer, log2):
+    """Symbols are read up to the first that is wrong by itself, and then the list is refused."""
+    try:
+        return Paper.read(paper, symbols, buffer, log2)
+    except Refused as refused:
+        if refused.number == 11:
+            n, front = paper.places(log2, log2), []
+            for symbol in symbols:
+                if paper.symbol_fault(marked_last(front + [symbol]), n):
+                    break
+                front.append(symbol)
+            buffer[:n] = paper.by_rows(paper.levels_of(front, n), log2)
+        raise
+
+
+def marked_last(symbols):
+    return [symbol & ~(1 << 26) for symbol in symbols[:-1]] + [symbols[-1] | 1 << 26]
+
+
+def cleared_then_refused(paper, symbols, buffer, log2):
+    try:
+        return Paper.read(paper, symbols, buffer, log2)
+    except Refused as refused:
+        if refused.number == 11:
+            buffer[:paper.places(log2, log2)] = [0] * paper.places(log2, log2)
+        raise
+
+
+def read_over(keeps):
+    """Some of the old levels stay: by the old ones and the new ones in scan order, and how many places the list takes,
+    what is there then."""
+    def read(paper, symbols, buffer, log2):
+        new, n = Paper.read(paper, symbols, buffer, log2), paper.places(log2, log2)
+        taken = sum(paper.unpacked(symbol)[0] + 1 for symbol in symbols)
+        after = keeps(paper.in_scan_order(buffer, log2), paper.in_scan_order(new, log2), taken)
+        return paper.by_rows(after, log2) + new[n:]
+    return read
+
+
+def by_their_places(paper, symbols, n):
+    """The run taken as the level's place in the scan."""
+    levels = [0] * n
+    for run, magnitude, negative, _ in map(paper.unpacked, symbols):
+        levels[run] = -magnitude if negative else magnitude
+    return levels
+
+
+def zeros_behind(paper, symbols, n):
+    levels = []
+    for run, magnitude, negative, _ in map(paper.unpacked, symbols):
+        levels += [-magnitude if negative else magnitude] + [0] * run
+    return levels + [0] * (n - len(levels))
+
+
+def padded(call):
+    """5 not tested: what is missing of the block is as if it were 0, and is not there then."""
+    def write(paper, buffer, log2, symbols):
+        return Paper.write(paper, buffer + [0] * max(0, (1 << min(2 * log2, 10)) - len(buffer)), log2, symbols)
+
+    def read(paper, symbols, buffer, log2):
+        longer = buffer + [0] * max(0, (1 << min(2 * log2, 10)) - len(buffer))
+        return Paper.read(paper, symbols, longer, log2)[:len(buffer)]
+    return write if call == "write" else read
+
+
+def written_with(change):
+    """The answer of the writer changed: by its count, the list after and before, and the buffer."""
+    def write(paper, buffer, log2, symbols):
+        count, after = Paper.write(paper, buffer, log2, symbols)
+        return change(count, after, symbols, buffer, paper.places(log2, log2))
+    return {"write": write}
+
+
+def block_cleared(paper, buffer, log2, symbols):
+    """The levels written are taken out of the block."""
+    count, after = Paper.write(paper, buffer, log2, symbols)
+    buffer[:paper.places(log2, log2)] = [0] * paper.places(log2, log2)
+    return count, after
+
+
+def list_cleared(paper, words):
+    """The symbols read are taken out of the list."""
+    head, buffer = Paper.answered(paper, words)
+    if words.words[0] == b"read":
+        head = paper.with_list(b"accepted :", [0] * len(words.listed))
+    return head, buffer
+
+
+def samples_first(paper, words):
+    """N and its samples stand before K and its symbols."""
+    verb, *rest = words.words
+    if verb in (b"write", b"read") and len(rest) > 1 and rest[1].isdigit() and len(rest[1]) < 5:
+        n = int(rest[1])
+        words.words = [verb, rest[0]] + rest[n + 2:] + rest[1:n + 2]
+    return Paper.answered(paper, words)
+
+
+def numbered(one, other):
+    """A refusal told by another number."""
+    return lambda paper, tests: [(other if n == one else n, k, fault) for n, k, fault in tests]
+
+
+# fields
+lists("run and magnitude exchanged", **at_bits(15, 0, 25, 26))
+lists("sign and last mark exchanged", **at_bits(0, 10, 26, 25))
+lists("the sign in bit 24", **at_bits(0, 10, 24, 26))
+lists("the sign in bit 26, the last mark in bit 27", **at_bits(0, 10, 26, 27))
+lists("the last mark in bit 31", **at_bits(0, 10, 25, 31))
+lists("the sign in bit 31", **at_bits(0, 10, 31, 26))
+lists("the run in 9 bits", **at_bits(0, 9, 24, 25))
+lists("the run in 11 bits", **at_bits(0, 11, 26, 27))
+lists("the run in 12 bits", **at_bits(0, 12, 27, 28))
+lists("the fields from the highest bit down", **at_bits(22, 7, 6, 5))
+lists("the magnitude lowest, the run highest", **at_bits(17, 0, 15, 16))
+lists("the sign over the last mark, written alone",
+      packed=lambda s, r, m, n, l: r | m << 10 | l << 25 | n << 26)
+lists("the sign over the last mark, read alone",
+      unpacked=lambda s, u: (u & 1023, u >> 10 & 32767, u >> 26 & 1, u >> 25 & 1))
+lists("the sign 1 when positive, written", packed=lambda s, r, m, n, l: Paper.packed(s, r, m, not n, l))
+lists("the sign 1 when positive, read", unpacked=lambda s, u: Paper.unpacked(s, u ^ 1 << 25))
+lists("the sign not written", packed=lambda s, r, m, n, l: Paper.packed(s, r, m, 0, l))
+lists("the sign not read", unpacked=lambda s, u: Paper.unpacked(s, u & ~(1 << 25)))
+lists("the last mark 1 when more come", packed=lambda s, r, m, n, l: Paper.packed(s, r, m, n, not l))
+lists("a level in two's complement, written",
+      packed=lambda s, r, m, n, l: Paper.packed(s, r, -m & 32767 if n else m, n, l))
+lists("a level in two's complement, read", unpacked=lambda s, u: (
+    u & 1023, -(u >> 10) & 32767 if u >> 25 & 1 else u >> 10 & 32767, u >> 25 & 1, u >> 26 & 1))
+lists("the magnitude less 1", packed=lambda s, r, m, n, l: Paper.packed(s, r, m - 1, n, l))
+lists("the magnitude in 14 bits", packed=lambda s, r, m, n, l: Paper.packed(s, r, m & 16383, n, l))
+lists("the magnitude in 8 bits", packed=lambda s, r, m, n, l: Paper.packed(s, r, m & 255, n, l))
+lists("the magnitude read in 14 bits", unpacked=lambda s, u: Paper.unpacked(s, u & ~(1 << 24)))
+lists("a magnitude of 32767 as 32766", packed=lambda s, r, m, n, l: Paper.packed(s, r, min(m, 32766), n, l))
+lists("-32767 without its sign", packed=lambda s, r, m, n, l: Paper.packed(s, r, m, n and m < 32767, l))
+lists("-32767 read without its sign", levels_of=lambda s, symbols, n: [
+    abs(v) if v == -32767 else v for v in Paper.levels_of(s, symbols, n)])
+lists("a magnitude of 32767 not read", zero_magnitude=lambda s, symbols: any(
+    s.unpacked(u)[1] in (0, 32767) for u in symbols))
+lists("the run in 8 bits, written", packed=lambda s, r, m, n, l: Paper.packed(s, r & 255, m, n, l))
+lists("the run written in 9 bits at most", packed=lambda s, r, m, n, l: Paper.packed(s, min(r, 511), m, n, l))
+lists("the run in 8 bits, read", unpacked=lambda s, u: Paper.unpacked(s, u & ~(3 << 8)))
+lists("the run in 9 bits, read", unpacked=lambda s, u: Paper.unpacked(s, u & ~(1 << 9)))
+
+# runs, scan and marks
+lists("the run counted along the rows, written", in_scan_order=lambda s, buffer, log2: buffer[:1 << 2 * log2])
+lists("the levels laid along the rows, read", by_rows=lambda s, levels, log2: levels)
+lists("the transposed scan, written", in_scan_order=lambda s, buffer, log2: [
+    buffer[p] for p in by_columns_of(s.scan(1 << log2))])
+lists("the transposed scan, read", by_rows=laid_along(by_columns_of))
+lists("the last two places exchanged, read", by_rows=laid_along(lambda scan: two_exchanged(scan, len(scan) - 2)))
+lists("two places in the middle exchanged, written", in_scan_order=lambda s, buffer, log2: [
+    buffer[p] for p in two_exchanged(s.scan(1 << log2), (1 << 2 * log2) // 2)])
+lists("the scan from the last place back, written", in_scan_order=lambda s, buffer, log2: Paper.in_scan_order(
+    s, buffer, log2)[::-1])
+lists("the symbols from the last back", symbols_of=lambda s, levels: Paper.symbols_of(s, levels)[::-1])
+lists("the run from the block's beginning", run_before=lambda s, places, i: places[i])
+lists("the zeros from the block's beginning", run_before=lambda s, places, i: places[i] - i)
+lists("the run with the level itself", run_before=lambda s, places, i: Paper.run_before(s, places, i) + 1)
+lists("the run one less behind a level", run_before=lambda s, places, i: max(0, Paper.run_before(s, places, i) - (
+    i > 0)))
+lists("the run behind a level", run_before=lambda s, places, i: Paper.run_before(s, places, i + 1) if i + 1 < len(
+    places) else 0)
+lists("the first run 0", run_before=lambda s, places, i: Paper.run_before(s, places, i) if i else 0)
+lists("the last mark on the first", is_last=lambda s, places, i: i == 0)
+lists("the last mark on none", is_last=lambda s, places, i: False)
+lists("the last mark on all", is_last=lambda s, places, i: True)
+lists("the last mark on the last place alone", is_last=lambda s, places, i: places[i] in (3, 15, 63, 255, 1023))
+lists("the last mark one symbol early", is_last=lambda s, places, i: i == max(0, len(places) - 2))
+lists("no last mark where there is one symbol", is_last=lambda s, places, i: 0 < i == len(places) - 1)
+lists("levels of 1 left out", symbols_of=lambda s, levels: Paper.symbols_of(s, [
+    v if abs(v) > 1 else 0 for v in levels]))
+lists("the first level not written", symbols_of=lambda s, levels: Paper.symbols_of(s, [0] + levels[1:]))
+lists("the last level not written", symbols_of=lambda s, levels: Paper.symbols_of(s, levels[:-1] + [0]))
+lists("an empty block as one symbol", symbols_of=lambda s, levels: Paper.symbols_of(s, levels) or [1 << 26])
+
+# what the writer leaves
+lists("the list cleared behind the symbols", filled=lambda s, symbols, made: made + [0] * (len(symbols) - len(made)))
+lists("a 0 behind the symbols", filled=lambda s, symbols, made: (made + [0] + symbols[len(made) + 1:])[:len(symbols)])
+lists("the symbols at the list's end", filled=lambda s, symbols, made: symbols[:len(symbols) - len(made)] + made)
+lists("the symbols pushed before what is there", filled=lambda s, symbols, made: (made + symbols)[:len(symbols)])
+lists("what is behind the symbols not said", filled=lambda s, symbols, made: made)
+lists("the list unchanged", filled=lambda s, symbols, made: symbols)
+lists("the last symbol not written", filled=lambda s, symbols, made: made[:-1] + symbols[len(made[:-1]):])
+lists("symbols put over those that are there by or", filled=lambda s, symbols, made: [
+    a | b for a, b in zip(symbols, made)] + symbols[len(made):])
+lists("the block cleared when written", write=block_cleared)
+lists("the list's length told", **written_with(lambda count, after, before, buffer, n: (len(before), after)))
+lists("the levels of the surplus counted too", **written_with(
+    lambda count, after, before, buffer, n: (sum(map(bool, buffer)), after)))
+lists("the count one less", **written_with(lambda count, after, before, buffer, n: (max(0, count - 1), after)))
+lists("the places to the last level told", **written_with(lambda count, after, before, buffer, n: (
+    max((p + 1 for p, v in enumerate(buffer[:n]) if v), default=0), after)))
+lists("the count in 8 bits", **written_with(lambda count, after, before, buffer, n: (count % 256, after)))
+lists("the count in 10 bits", **written_with(lambda count, after, before, buffer, n: (count % 1024, after)))
+lists("the room that is left told", **written_with(
+    lambda count, after, before, buffer, n: (len(before) - count, after)))
+
+# refusals of the writer
+def cut_to_room(paper, symbols, made):
+    return Paper.filled(paper, symbols, made)[:len(symbols)]
+
+
+lists("a list of exactly enough places refused", room_fault=lambda s, symbols, levels: len(symbols) <= s.symbol_count(
+    levels))
+lists("a list of exactly enough places refused where there are levels",
+      room_fault=lambda s, symbols, levels: 0 < s.symbol_count(levels) >= len(symbols))
+lists("a list one place too short filled", room_fault=lambda s, symbols, levels: len(symbols) + 1 < s.symbol_count(
+    levels), filled=cut_to_room)
+lists("10 not tested", room_fault=lambda s, symbols, levels: False, filled=cut_to_room)
+lists("10 by the places to the last level", room_fault=lambda s, symbols, levels: len(symbols) < max(
+    (p + 1 for p, v in enumerate(levels) if v), default=0))
+lists("10 by the block's places", room_fault=lambda s, symbols, levels: len(symbols) < len(levels))
+lists("an empty list refused", room_fault=lambda s, symbols, levels: not symbols or Paper.room_fault(
+    s, symbols, levels))
+lists("10 by the surplus too", write=lambda s, buffer, log2, symbols: of_another(
+    "write", room_fault=lambda paper, lent, levels: len(lent) < sum(map(bool, buffer)))(s, buffer, log2, symbols))
+lists("10 where there is a place too many", room_fault=lambda s, symbols, levels: len(symbols) != s.symbol_count(
+    levels))
+lists("6 not tested", level_fault=lambda s, levels: False)
+lists("6 from -32767 on", level_fault=lambda s, levels: min(levels, default=0) < -32766)
+lists("6 of 32767 too", level_fault=lambda s, levels: any(abs(v) > 32766 for v in levels))
+lists("6 of a residual's limit", level_fault=lambda s, levels: any(abs(v) > 1023 for v in levels))
+lists("6 in the surplus", **{"write": of_another("write", sampled=lambda s, buffer, n: buffer)})
+lists("6 not at the first place", level_fault=lambda s, levels: -32768 in levels[1:])
+lists("6 not at the last place", **{"write": of_another("write", sampled=lambda s, buffer, n: buffer[:n - 1])})
+for one, other in ((1, 5), (5, 6), (6, 10), (1, 6), (5, 10), (1, 10)):
+    lists("write: refusals %d and %d exchanged" % (one, other), **through("write", exchange(one, other)))
+lists("write: 1 not tested", write=of_another("write", ordered=lambda s, tests: tests[1:]))
+lists("write: 5 not tested", write=padded("write"))
+lists("the list filled, then refused with 10", write=filled_when_refused(10))
+lists("the list filled, then refused with 6", write=filled_when_refused(6))
+lists("refusal 10 told as 9", ordered=numbered(10, 9))
+lists("refusal 10 told as 11", ordered=numbered(10, 11))
+
+# refusals of the reader
+lists("a zero magnitude read", zero_magnitude=lambda s, symbols: False)
+lists("a zero magnitude with a sign read", zero_magnitude=lambda s, symbols: any(
+    s.unpacked(u)[1:3] == (0, 0) for u in symbols))
+lists("a zero magnitude with a run read", zero_magnitude=lambda s, symbols: any(
+    s.unpacked(u)[1] == 0 and s.unpacked(u)[0] == 0 for u in symbols))
+lists("a zero magnitude read behind the first symbol", **some_symbols("zero_magnitude", lambda symbols: symbols[:1]))
+lists("a zero magnitude read before the last symbol", **some_symbols("zero_magnitude", lambda symbols: symbols[-1:]))
+lists("a zero magnitude read at the last symbol", **some_symbols("zero_magnitude", lambda symbols: symbols[:-1]))
+lists("unused bits read", unused_bits=lambda s, symbols: False)
+for bit in range(27, 32):
+    lists("unused bit %d read" % bit, unused=all_but_bit(bit))
+lists("unused bits tested as a number below 0", unused_bits=lambda s, symbols: any(u >> 31 for u in symbols))
+lists("unused bits read behind the first symbol", **some_symbols("unused_bits", lambda symbols: symbols[:1]))
+lists("unused bits read before the last symbol", **some_symbols("unused_bits", lambda symbols: symbols[-1:]))
+lists("unused bits read at the last symbol", **some_symbols("unused_bits", lambda symbols: symbols[:-1]))
+lists("unused bits read in the middle", **some_symbols("unused_bits", lambda symbols: symbols[:1] + symbols[-1:]))
+lists("a run past the block read", **places_taken(lambda runs, n: False))
+lists("a run one past the block read", **places_taken(lambda runs, n: sum(runs) + len(runs) > n + 1))
+lists("a run to the block's end refused", **places_taken(lambda runs, n: sum(runs) + len(runs) >= n))
+lists("runs alone added up", **places_taken(lambda runs, n: sum(runs) > n))
+lists("runs alone added up, n refused", **places_taken(lambda runs, n: sum(runs) >= n))
+lists("each run by itself compared", **places_taken(lambda runs, n: any(run >= n for run in runs)))
+lists("the last run alone compared", **places_taken(lambda runs, n: runs != [] and runs[-1] + len(runs) > n))
+lists("the last run not compared", **places_taken(lambda runs, n: sum(runs[:-1]) + len(runs[:-1]) > n))
+lists("runs past 1024 refused alone", **places_taken(lambda runs, n: sum(runs) + len(runs) > 1024))
+lists("as many symbols as places compared", **places_taken(lambda runs, n: len(runs) > n))
+for bits in (8, 10, 11, 16):
+    lists("places counted in %d bits" % bits, **places_taken(
+        lambda runs, n, bits=bits: (sum(runs) + len(runs) - 1) % 2 ** bits + 1 > n if runs else False))
+lists("a missing last mark read", missing_mark=lambda s, marks: False)
+lists("a missing last mark read where one symbol is", missing_mark=lambda s, marks: len(marks) > 1 and not marks[-1])
+lists("a missing last mark read where the block is full", symbol_fault=lambda s, symbols, n: Paper.symbol_fault(
+    s, marked_last(symbols) if sum(s.unpacked(u)[0] + 1 for u in symbols) == n else symbols, n))
+lists("a mark anywhere is enough", missing_mark=lambda s, marks: marks != [] and not any(marks),
+      behind_a_mark=lambda s, marks: False)
+lists("the empty list refused", missing_mark=lambda s, marks: not any(marks[-1:]))
+lists("a symbol behind a last mark read", behind_a_mark=lambda s, marks: False)
+lists("a symbol behind a last mark read where it is the second", behind_a_mark=lambda s, marks: any(marks[1:-1]))
+lists("a mark right before the last symbol read", behind_a_mark=lambda s, marks: any(marks[:-2]))
+lists("marks not looked at", missing_mark=lambda s, marks: False, behind_a_mark=lambda s, marks: False)
+lists("what is behind a last mark not read", read=lambda s, symbols, buffer, log2: Paper.read(
+    s, up_to_the_mark(s, symbols), buffer, log2))
+lists("zeros behind the last mark passed over", read=lambda s, symbols, buffer, log2: Paper.read(
+    s, without_zeros_behind(symbols), buffer, log2))
+lists("refusal 11 told as 10", ordered=numbered(11, 10))
+lists("refusal 11 told as 6", ordered=numbered(11, 6))
+for one, other in ((1, 5), (5, 11), (1, 11)):
+    lists("read: refusals %d and %d exchanged" % (one, other), **through("read", exchange(one, other)))
+lists("read: 1 not tested", read=of_another("read", ordered=lambda s, tests: tests[1:]))
+lists("read: 5 not tested", read=padded("read"))
+
+# what the reader leaves
+lists("old levels not cleared", read=read_over(lambda was, new, taken: [b or a for a, b in zip(was, new)]))
+lists("old levels behind the last symbol not cleared", read=read_over(
+    lambda was, new, taken: new[:taken] + was[taken:]))
+lists("old levels cleared behind the last symbol alone", read=read_over(
+    lambda was, new, taken: [b or a for a, b in zip(was[:taken], new)] + new[taken:]))
+lists("levels added to the old ones", read=read_over(lambda was, new, taken: [
+    wrapped(a + b, 16) for a, b in zip(was, new)]))
+lists("an empty list leaves the block", read=read_over(lambda was, new, taken: new if taken else was))
+lists("the surplus cleared too", read=lambda s, symbols, buffer, log2: Paper.read(s, symbols, buffer, log2)[
+    :s.places(log2, log2)] + [0] * (len(buffer) - s.places(log2, log2)))
+lists("the first place behind the block cleared too", read=lambda s, symbols, buffer, log2: (
+    lambda after, n: after[:n] + [0] * (len(after) > n) + after[n + 1:])(Paper.read(s, symbols, buffer, log2), s.places(
+        log2, log2)))
+lists("the surplus not said", read=lambda s, symbols, buffer, log2: Paper.read(s, symbols, buffer, log2)[
+    :s.places(log2, log2)])
+lists("the block read until it is refused", read=read_when_refused)
+lists("the block cleared, then refused", read=cleared_then_refused)
+lists("the list cleared when read", answered=list_cleared)
+lists("the last symbol not read", levels_of=lambda s, symbols, n: Paper.levels_of(s, symbols[:-1], n))
+lists("the first symbol not read", levels_of=lambda s, symbols, n: Paper.levels_of(s, symbols[1:], n))
+lists("the run read as the level's place", levels_of=by_their_places)
+lists("the run read as the zeros behind the level", levels_of=zeros_behind)
+
+# sides and lengths, each call by itself
+for call in ("write", "read"):
+    lists("%s: sides refused as luma's" % call, **{call: of_another(call, LEAST_SIDE=2)})
+    lists("%s: log2 side 0 taken" % call, **{call: of_another(call, LEAST_SIDE=0)})
+    lists("%s: log2 side 6 taken" % call, **{call: of_another(call, MOST_SIDE=6)})
+    lists("%s: log2 side 5 refused" % call, **{call: of_another(call, MOST_SIDE=4)})
+    lists("%s: a place more asked for" % call, **{call: of_another(call, places=lambda s, lw, lh: Paper.places(
+        s, lw, lh) + 1, by_rows=lambda s, levels, log2: Paper.by_rows(s, levels[:-1], log2) + levels[-1:])})
+lists("write: the log2 side cut to 32 bits", write=lambda s, buffer, log2, symbols: Paper.write(
+    s, buffer, log2 % 2 ** 32, symbols))
+lists("read: the log2 side cut to 32 bits", read=lambda s, symbols, buffer, log2: Paper.read(
+    s, symbols, buffer, log2 % 2 ** 32))
+
+# their lines
+list_reader("K and N 8,192 together", most_samples=lambda s: 8192 - len(s.listed or []))
+list_reader("K and N 8,192 each", most_samples=lambda s: 8192)
+list_reader("2·K + N of 8,192 not read", most_samples=lambda s: 8191 - 2 * len(s.listed or []))
+list_reader("2·K + N of 8,193 read", most_samples=lambda s: 8193 - 2 * len(s.listed or []))
+list_reader("a symbol in the room of three", most_samples=lambda s: 8192 - 3 * len(s.listed or []))
+list_reader("K + 2·N of 8,192", most_samples=lambda s: (8192 - len(s.listed or [])) // 2)
+list_reader("symbols of 31 bits alone read", symbol=lambda s: s.whole(0, 2 ** 31 - 1))
+list_reader("symbols of 27 bits alone read", symbol=lambda s: s.whole(0, 2 ** 27 - 1))
+list_reader("symbols cut to 32 bits", symbol=cut_to(32))
+list_reader("symbols below 0 read", symbol=lambda s: s.whole(-2 ** 31, 2 ** 32 - 1) % 2 ** 32)
+list_reader("symbols as samples", symbol=lambda s: s.whole(-32768, 32767) % 2 ** 32)
+lists("no colon where the list is empty", with_list=lambda s, head, symbols: Paper.with_list(
+    s, head, symbols) if symbols else head)
+lists("two spaces where the list is empty", with_list=lambda s, head, symbols: Paper.with_list(
+    s, head, symbols) if symbols else head + b"  :")
+lists("the list not said", with_list=lambda s, head, symbols: head)
+lists("symbols said in hex", with_list=lambda s, head, symbols: b" ".join(
+    [head] + [b"%x" % symbol for symbol in symbols] + [b":"]))
+lists("symbols said as signed numbers", with_list=lambda s, head, symbols: Paper.with_list(
+    s, head, [wrapped(symbol) for symbol in symbols]))
+lists("N before K", answered=samples_first)
+for verb in (b"write", b"read"):
+    lists("%s not read" % verb.decode(), answered=read_as(verb, b"malformed"))
+for word, verb in ((b"write", b"read"), (b"read", b"write")):
+    lists("%s read as %s" % (word.decode(), verb.decode()), answered=read_as(word, verb))
+for word, verb in ((b"write_symbols", b"write"), (b"write-symbols", b"write"), (b"writ", b"write"),
+                   (b"writer", b"write"), (b"read_symbols", b"read"), (b"read-symbols", b"read"), (b"rea", b"read"),
+                   (b"reader", b"read")):
+    lists("%s read as %s" % (word.decode(), verb.decode()), answered=read_as(word, verb))
+    PORTS[-1].asked = staticmethod(lambda line, word=word: line.startswith(word))
+
+
 # ---- ports that can't differ: what is said of them is checked as far as the stored requests go
 equal("7, 8 and 9 asked of a skipped block too", "there m is at most 1, lambda × 2 at most 2^29, D below 2^57",
       meets_late_tests=lambda s, block: True)
@@ -1252,6 +1683,13 @@ equal("second mode: not searched behind the last m above 0", "no nonzero level c
 equal("a line of more than 65,535 bytes read", "the longest request that can be read has 58,072",
       Words=type("Words", (Words,), {"LONGEST_LINE": 10 ** 9}))
 equal("lambda × (M+1) of 2^41 + 3 taken", "the nearest product past 2^41 is 2^41 + 4", PRICE=(1 << 41) + 3)
+equal("run list: the run cut to 10 bits", "a block has 1,024 places at most, and a level is one of them",
+      packed=lambda s, r, m, n, l: Paper.packed(s, r & 1023, m, n, l), asked=staticmethod(is_symbols))
+equal("run list: the magnitude cut to 15 bits", "6 has refused -32768",
+      packed=lambda s, r, m, n, l: Paper.packed(s, r, m & 32767, n, l), asked=staticmethod(is_symbols))
+equal("run list: as many symbols as places compared first", "each takes a place",
+      past_the_block=lambda s, symbols, n: len(symbols) > n or Paper.past_the_block(s, symbols, n),
+      asked=staticmethod(is_symbols))
 equal("viewer's half: a level's product in 32 bits", "32768 × 57 × 2^10 + 2^5 is below 2^31",
       coefficient_back=back_by(lambda s, v, l, qp: wrapped(wrapped(v * factor(s, qp)) + (1 << l)) >> (1 + l)))
 equal("viewer's half: clipped from 64 places on alone", "the sums of smaller blocks stay below 32767 × 2^17",

@@ -642,6 +642,8 @@ FIELDS = {
     b"guarded": (["log2", "u32"] + ["u32", "lambda"] * 3 + ["flags"] + ["u32"] * 6 + ["cost"] * 28 + ["n"]
                  + ["sample"] * 24),
     b"measure": ["log2", "u32", "flags", "log2", "n"] + ["sample"] * 8,
+    b"write": ["log2", "k"] + ["symbol"] * 3 + ["n"] + ["sample"] * 4,
+    b"read": ["log2", "k"] + ["symbol"] * 3 + ["n"] + ["sample"] * 4,
 }
 # past each type, first one whose low bits would pass
 PAST_TYPE = {
@@ -652,6 +654,8 @@ PAST_TYPE = {
     "sample": [65536 + 20, 32768, -32769, 20 - 65536, 2 ** 32 + 7, 2 ** 64 + 7],
     "component": [3, 4, 256, 2 ** 32, 2 ** 64 + 1],
     "n": [8193, 2 ** 32 + 4, 2 ** 64 + 4],
+    "k": [4097, 8192, 8193, 2 ** 32 + 3, 2 ** 64 + 3],
+    "symbol": [2 ** 32 + 1024, 2 ** 32, 2 ** 64 + 1024],
 }
 
 

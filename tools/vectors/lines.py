@@ -55,6 +55,14 @@ def inverse(coefficients, lw=1, lh=1, n=None):
     return f"inverse {lw} {lh} {numbers(coefficients, n)}".encode()
 
 
+def write(levels, symbols=(), log2=1, n=None, k=None):
+    return f"write {log2} {numbers(symbols, k)} {numbers(levels, n)}".encode()
+
+
+def read(symbols, buffer=(0, 0, 0, 0), log2=1, n=None, k=None):
+    return f"read {log2} {numbers(symbols, k)} {numbers(buffer, n)}".encode()
+
+
 def is_viewers(line):
     """A request of the viewer's half."""
     return line.split(b" ")[0] in (b"scaleback", b"inverse")
@@ -63,6 +71,11 @@ def is_viewers(line):
 def is_guarded(line):
     """A request of the guarded call or of measure."""
     return line.split(b" ")[0] in (b"guarded", b"measure")
+
+
+def is_symbols(line):
+    """A request of the run list's two calls."""
+    return line.split(b" ")[0] in (b"write", b"read")
 
 
 def unguarded(line):
