@@ -90,6 +90,9 @@ fn fits(archive: &[u8]) -> Result<(), String> {
     if !has(b"galemosu_guarded_sub_block") {
         return Err("has no galemosu_guarded_sub_block: it is of a version before 0.5.0".to_string());
     }
+    if !has(b"galemosu_write_symbols") {
+        return Err("has no galemosu_write_symbols: it is of a version before 0.6.0, without run lists".to_string());
+    }
     Ok(())
 }
 

@@ -33,6 +33,7 @@ C
 #include <stddef.h>
 void *malloc(size_t);
 void free(void *);
+_Noreturn void exit(int);
 C
     echo 'int printf(const char *restrict, ...);' >"$1/stdio.h"
     cat >"$1/unistd.h" <<'C'

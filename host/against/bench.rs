@@ -1,7 +1,7 @@
 //! Times the calls beside the Rust's release build, the second mode beside the walk, the way back beside the way there,
-//! and the guarded call beside the unguarded one, in one process: nanoseconds a call, the best of many rounds, with
-//! what the copy of the input takes off; how much the second mode saves; and what heights cost in bits. With a
-//! word, only that table: transform, quantise, least, back or guarded.
+//! the guarded call beside the unguarded one, and run lists beside the walk, in one process: nanoseconds a call, the
+//! best of many rounds, with what the copy of the input takes off; how much the second mode saves; and what heights
+//! cost in bits. With a word, only that table: transform, quantise, least, back, guarded or symbols.
 
 mod bits;
 mod blocks;
@@ -15,6 +15,7 @@ use blocks::Random;
 use digits::{Digit, Guess};
 use galemosu::{guarded_sub_block, sub_block, Heights, Refusal, SubBlock};
 use galemosu::{inverse, quantise, scale_back, transform, Component, Costs, Mode, Quantise, Settings};
+use galemosu::{read_symbols, write_symbols};
 use std::time::Instant;
 
 const ROUNDS: usize = 60;
@@ -59,7 +60,7 @@ fn best(
 }
 
 fn main() {
-    let tables: [(&str, fn()); 8] = [
+    let tables: [(&str, fn()); 9] = [
         ("transform", transforms),
         ("quantise", quantisers),
         ("least", modes),
@@ -68,6 +69,7 @@ fn main() {
         ("back", scalings),
         ("guarded", looks),
         ("guarded", heights),
+        ("symbols", lists),
     ];
     let asked = std::env::args().nth(1);
     let wanted: Vec<fn()> = tables
@@ -76,7 +78,7 @@ fn main() {
         .map(|(_, table)| *table)
         .collect();
     if wanted.is_empty() {
-        eprintln!("usage: bench [transform|quantise|least|back|guarded]");
+        eprintln!("usage: bench [transform|quantise|least|back|guarded|symbols]");
         std::process::exit(2);
     }
     wanted.into_iter().for_each(|table| table());
@@ -397,4 +399,62 @@ fn times_of(blocks: &[Vec<i16>], call: &SubBlock, height: Heights) -> String {
         },
     );
     format!("{:.2}", held / free)
+}
+
+/// How many blocks each row of the run lists is about.
+const LISTED: usize = 64;
+
+/// Coefficients of each kind at QP 34: of paper, of digits, and of 4 to 12 steps everywhere.
+fn listed(random: &mut Random, log2: usize) -> [(&'static str, Vec<Vec<i16>>); 3] {
+    let n = 1usize << (2 * log2);
+    let mut coefficients = |one: &mut dyn FnMut(&mut Random) -> Vec<i16>| -> Vec<Vec<i16>> {
+        let transformed = |mut block: Vec<i16>| {
+            transform(&mut block, log2, log2).unwrap();
+            block
+        };
+        (0..LISTED).map(|_| transformed(one(random))).collect()
+    };
+    let paper = coefficients(&mut |random| random.blank(n));
+    let digits = coefficients(&mut |random| Digit::drawn(random, log2, Guess::Even).residuals);
+    let step = 1024 >> log2;
+    let mut dense = || (0..n).map(|_| random.between(4, 12) * step).collect::<Vec<i64>>();
+    let dense: Vec<Vec<i64>> = (0..LISTED).map(|_| dense()).collect();
+    let dense = dense.into_iter().map(|block| block.into_iter().map(|c| random.signed(c as i128)).collect()).collect();
+    [("paper", paper), ("digits", digits), ("dense", dense)]
+}
+
+/// Symbols written and read, beside the walk that has left the levels.
+fn lists() {
+    let mut random = Random::new(23);
+    println!("\n| side | blocks | nonzero levels | walk ns | write ns | read ns | write / walk | read / walk |");
+    println!("|---|---|---|---|---|---|---|---|");
+    for log2 in 2..=5 {
+        let n = 1usize << (2 * log2);
+        for (kind, coefficients) in listed(&mut random, log2) {
+            let call = call(log2, recorder::LAMBDA, Mode::Walk);
+            let mut levels = coefficients.clone();
+            let count: u32 = levels.iter_mut().map(|b| quantise(b, &call).unwrap().count).sum();
+            let mut room = vec![0; n];
+            let lists: Vec<Vec<u32>> =
+                levels.iter().map(|b| write_symbols(b, log2, &mut room).unwrap().to_vec()).collect();
+            let mut turn = lists.iter().cycle();
+            let [walk, write, read] = best_of(
+                30_000 / n / 4 + 1,
+                [
+                    (&coefficients, &mut |b| {
+                        std::hint::black_box(quantise(b, &call).unwrap());
+                    }),
+                    (&levels, &mut |b| {
+                        std::hint::black_box(write_symbols(b, log2, &mut room).unwrap());
+                    }),
+                    (&coefficients, &mut |b| read_symbols(turn.next().unwrap(), b, log2).unwrap()),
+                ],
+            );
+            let (count, writes, reads) = (count / LISTED as u32, write / walk, read / walk);
+            println!(
+                "| {} | {kind} | {count} | {walk:.0} | {write:.0} | {read:.0} | {writes:.2} | {reads:.2} |",
+                1 << log2
+            );
+        }
+    }
 }

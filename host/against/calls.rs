@@ -2,8 +2,11 @@
 //! several faults at once, so that the order of the tests shows.
 
 use crate::blocks::Random;
+use crate::digits::{Digit, Guess};
 use crate::limits::to_a_limit;
 use crate::paper::{self, Block};
+use crate::scan::scan;
+use crate::symbols;
 use galemosu::{Component, Costs, Heights, Mode, Settings};
 use std::ops::Range;
 
@@ -71,6 +74,34 @@ pub struct Measure {
     pub levels: Vec<i16>,
     pub log2_side: usize,
     pub qp: u32,
+}
+
+#[derive(Debug)]
+pub struct Write {
+    pub buffer: Vec<i16>,
+    pub log2_side: usize,
+    pub list: Vec<u32>,
+    /// Whether the levels are such as the quantiser leaves.
+    pub quantised: bool,
+}
+
+#[derive(Debug)]
+pub struct Read {
+    pub list: Vec<u32>,
+    pub buffer: Vec<i16>,
+    pub log2_side: usize,
+}
+
+impl Write {
+    pub fn needs(&self) -> usize {
+        1 << (2 * self.log2_side)
+    }
+}
+
+impl Read {
+    pub fn needs(&self) -> usize {
+        1 << (2 * self.log2_side)
+    }
 }
 
 impl Measure {
@@ -331,7 +362,115 @@ pub fn inverse(random: &mut Random, log2_w: usize, log2_h: usize, faulty: bool) 
     call
 }
 
+/// A writing of the given side, of levels that the quantiser has left or of others, or a faulty one. A list that is too
+/// short lacks one place, or more.
+pub fn write(random: &mut Random, log2_side: usize, quantised: bool, faulty: bool) -> Write {
+    let levels = if quantised { random.quantised(log2_side) } else { random.levels(log2_side) };
+    let count = levels.iter().filter(|level| **level != 0).count();
+    let short = random.wrong(faulty) && count != 0;
+    let places = if short { random.one(&[count - 1, count - 1, count / 2, 0]) } else { count + random.surplus() };
+    let list = (0..places).map(|_| random.next() as u32).collect();
+    let mut call = Write { buffer: levels, log2_side, list, quantised };
+    if random.wrong(faulty) {
+        let place = random.place(&call.buffer);
+        call.buffer[place] = -32768;
+    }
+    if random.wrong(faulty) {
+        call.log2_side = random.one(&WRONG_SIDES);
+    }
+    random.lend(&mut call.buffer, faulty);
+    call
+}
+
+/// A reading of the given side, or a faulty one: of a list as it is written (kind 0), of such a list with changes (1),
+/// or of numbers by chance, half of them with no unused bit set (2).
+pub fn read(random: &mut Random, log2_side: usize, kind: usize, faulty: bool) -> Read {
+    let buffer = (0..1 << (2 * log2_side)).map(|_| random.next() as i16).collect();
+    let list = if kind == 2 {
+        let used = random.one(&[u32::MAX, (1 << 27) - 1]);
+        (0..1 + random.below(4)).map(|_| random.next() as u32 & used).collect()
+    } else {
+        let quantised = random.yes();
+        let levels = if quantised { random.quantised(log2_side) } else { random.levels(log2_side) };
+        let mut list = symbols::listed(&levels, log2_side);
+        for _ in 0..if kind == 1 { 1 + random.below(4) } else { 0 } {
+            random.change(&mut list);
+        }
+        list
+    };
+    let mut call = Read { list, buffer, log2_side };
+    if random.wrong(faulty) {
+        call.log2_side = random.one(&WRONG_SIDES);
+    }
+    random.lend(&mut call.buffer, faulty);
+    call
+}
+
 impl Random {
+    /// Levels as the quantiser leaves them, of coefficients of any kind or of a digit's.
+    fn quantised(&mut self, log2_side: usize) -> Vec<i16> {
+        let mut block = if log2_side > 1 && self.yes() {
+            let mut residuals = Digit::drawn(self, log2_side, Guess::Even).residuals;
+            galemosu::transform(&mut residuals, log2_side, log2_side).unwrap();
+            residuals
+        } else {
+            self.coefficients(log2_side)
+        };
+        let settings = Settings::usual(self.between(4, 51) as u32);
+        let mut call = galemosu::Quantise::new(Component::Y, log2_side, settings, &Costs::START);
+        (call.intra_slice, call.intra_coded) = (true, true);
+        match galemosu::quantise(&mut block, &call) {
+            Ok(_) => block,
+            Err(_) => self.quantised(log2_side), // refused with 8 or 9: other coefficients
+        }
+    }
+
+    /// Levels of any kind that are not refused: such as `any` gives, one alone in the front, in the middle or at the
+    /// end of the scan, none, or all of one size.
+    fn levels(&mut self, log2_side: usize) -> Vec<i16> {
+        let n = 1usize << (2 * log2_side);
+        let level = self.one(&[1, -1, 32767, -32767, 300]);
+        match self.below(8) {
+            0 => vec![0; n],
+            1 => vec![level; n],
+            2 => {
+                let (mut block, place) = (vec![0; n], self.below(n as u64) as usize);
+                block[scan(1 << log2_side)[self.one(&[0, place, n - 1])]] = level;
+                block
+            }
+            _ => self.any(n).into_iter().map(|level| level.max(-32767)).collect(),
+        }
+    }
+
+    fn surplus(&mut self) -> usize {
+        self.one(&[0, 0, 1, 3, 40])
+    }
+
+    /// One thing of a list changed: a bit, a symbol less or more, a mark, a run, a magnitude, or two symbols
+    /// exchanged. The list may be another block's then, or none's.
+    fn change(&mut self, list: &mut Vec<u32>) {
+        const LAST: u32 = 1 << 26;
+        let Some(end) = list.len().checked_sub(1) else {
+            list.push(self.next() as u32 >> self.one(&[0, 5, 6]));
+            return;
+        };
+        let place = self.below(list.len() as u64) as usize;
+        let at = self.one(&[end, place]);
+        match self.below(9) {
+            0 => list[at] ^= 1 << self.below(32),
+            1 => list.truncate(at),
+            2 => list.push(list[at]),
+            3 => list[at] ^= LAST,
+            4 => list[at] = list[at] & !1023 | self.one(&[0, 1, 16, 1023]),
+            5 => list[at] &= !(32767 << 10),
+            6 => list[at] |= 1 << self.between(27, 31),
+            7 => list.swap(at, end),
+            _ => {
+                list.insert(at, 1024 + self.below(3) as u32);
+            }
+        }
+    }
+
     /// Numbers of 16 bits: up to a size, few of them, the limits alone, or all but 0 near the front.
     fn any(&mut self, n: usize) -> Vec<i16> {
         let reach = (1i64 << self.below(16)).min(32767);

@@ -1,12 +1,14 @@
 //! Holds the recorder's three calls against the Rust that they were ported from, built with overflow checks, and
 //! against document 01 worked out apart (paper.rs), the second mode of two of them against the cheapest block found
-//! apart (least.rs), the viewer's two calls against their formulas worked out apart (formula.rs), and the guarded call
-//! and `measure` against theirs (guarded.rs): `compare transform|quantise|sub_block|least|back|guarded|all [N]`, N
-//! random accepted calls of each. Status 0 when nothing differed and all that must come has come.
+//! apart (least.rs), the viewer's two calls against their formulas worked out apart (formula.rs), the guarded call and
+//! `measure` against theirs (guarded.rs), and the run lists against theirs (symbols.rs): `compare
+//! transform|quantise|sub_block|least|back|guarded|symbols|all [N]`, N random accepted calls of each. Status 0 when
+//! nothing differed and all that must come has come.
 
 mod back;
 mod blocks;
 mod calls;
+mod digits;
 mod formula;
 mod guarded;
 mod least;
@@ -17,6 +19,7 @@ mod paper;
 mod quantise;
 mod scan;
 mod sub_block;
+mod symbols;
 mod tally;
 mod there;
 mod transform;
@@ -38,6 +41,8 @@ const LEAST: Comparison = ("least", least::compare, 120_000);
 const BACK: [Comparison; 2] = [("back", back::scale_back, 100_000), ("back", back::inverse, 200_000)];
 /// The guarded call and `measure`, which it has neither.
 const GUARDED: [Comparison; 2] = [("guarded", guarded::compare, 100_000), ("guarded", guarded::measures, 50_000)];
+/// Run lists, which it has neither: written and read back, and read.
+const SYMBOLS: [Comparison; 2] = [("symbols", symbols::writes, 200_000), ("symbols", symbols::reads, 200_000)];
 /// How many blocks go there and back.
 const THERE_AND_BACK: u64 = 100_000;
 
@@ -83,8 +88,8 @@ fn main() {
         }
         good &= there::compare(number.unwrap_or(THERE_AND_BACK));
     }
-    if what == "all" || what == GUARDED[0].0 {
-        for (_, compare, usual) in GUARDED {
+    for (name, compare, usual) in GUARDED.into_iter().chain(SYMBOLS) {
+        if what == "all" || what == name {
             good &= compare(number.unwrap_or(usual)).report();
         }
     }

@@ -1,6 +1,6 @@
 /* The program whose instructions host/count-x86 counts: linked once with the library's archive and once with the
- * Rust, each of which has galemosu_transform and galemosu_quantise_y; the way back and the calls over three components
- * are in the archive alone. It stands on nothing but Linux on x86-64.
+ * Rust, each of which has galemosu_transform and galemosu_quantise_y; the way back, the calls over three components and
+ * those of run lists are in the archive alone. It stands on nothing but Linux on x86-64.
  *
  *   count transform LOG2_W LOG2_H 1   TURNS times: copy a block of random residuals in, and transform it
  *   count quantise LOG2 LOG2 1        for each of BLOCKS blocks of a file of samples.rs on standard input, transformed:
@@ -10,6 +10,9 @@
  *   count free LOG2 LOG2 1            for each of BLOCKS blocks of such a file: copy it in as luma, and code it by
  *                                     galemosu_sub_block
  *   count guarded LOG2 LOG2 1         the same by galemosu_guarded_sub_block, with heights that nothing exceeds
+ *   count write LOG2 LOG2 1           for each of BLOCKS blocks of such a file, transformed and quantised: list its
+ *                                     levels
+ *   count read LOG2 LOG2 1            for each of these lists: read it
  *
  * With 0 for 1 the same, with a call of two instructions that do nothing for the one that is counted. Writes a
  * checksum of what the calls left, and of the quantiser's counts. What it does beside the calls takes as many
@@ -29,11 +32,17 @@ typedef unsigned three(short *buffer, size_t len, size_t log2_luma, const unsign
 typedef unsigned guards(short *buffer, size_t len, size_t log2_luma, const unsigned qp[3], const double lambda[3],
     unsigned run, unsigned flags, const u64 costs[28], const unsigned heights[6], u64 answer[13]);
 
+typedef unsigned writes(const short *block, size_t len, size_t log2_side, unsigned *list, size_t list_len,
+    u64 answer[1]);
+typedef unsigned reads(const unsigned *list, size_t list_len, short *block, size_t len, size_t log2_side);
+
 transforms galemosu_transform, galemosu_inverse, no_transform;
 scales galemosu_scale_back, no_scale;
 quantises galemosu_quantise_y, no_quantise;
 three galemosu_sub_block, no_three;
 guards galemosu_guarded_sub_block, no_guard;
+writes galemosu_write_symbols, no_write;
+reads galemosu_read_symbols, no_read;
 /* of the Rust alone: takes the cost tables over, which its quantiser is lent in a shape of its own */
 __attribute__((weak)) void prepare(const u64 costs[28]);
 
@@ -44,8 +53,8 @@ __asm__(".globl _start\n"
         "and $-16, %rsp\n"
         "call run\n"
         "ud2\n"
-        ".globl no_transform, no_scale, no_quantise, no_three, no_guard\n"
-        "no_transform: no_scale: no_quantise: no_three: no_guard: xor %eax, %eax\n"
+        ".globl no_transform, no_scale, no_quantise, no_three, no_guard, no_write, no_read\n"
+        "no_transform: no_scale: no_quantise: no_three: no_guard: no_write: no_read: xor %eax, %eax\n"
         "ret\n");
 
 /* Sixteen bytes at a store, as on a processor of which no more is known than x86-64; the compiler unrolls the loop
@@ -199,6 +208,33 @@ static unsigned code_all(size_t log2, int guarded, int counted)
     return refused;
 }
 
+/* the levels that the walk leaves of an intra-coded block in an intra slice, listed, and the lists read */
+static unsigned list_all(size_t log2, int reading, int counted)
+{
+    writes *const both[] = {no_write, galemosu_write_symbols}, *volatile write = both[counted];
+    reads *const either[] = {no_read, galemosu_read_symbols}, *volatile read = either[counted];
+    size_t n = (size_t)1 << 2 * log2;
+    static unsigned list[1024];
+    unsigned refused = 0;
+    all_read(&settings, sizeof settings);
+    for (int i = 0; i < BLOCKS; i++) {
+        u64 answer[3] = {0}, count[1] = {0};
+        all_read(room, n * sizeof *room);
+        refused |= galemosu_transform(room, n, log2, log2);
+        refused |= galemosu_quantise_y(room, n, log2, (unsigned)settings.qp, settings.lambda, 3, settings.costs,
+            answer);
+        if (reading) {
+            refused |= galemosu_write_symbols(room, n, log2, list, n, count);
+            refused |= read(list, count[0], room, n, log2);
+        } else {
+            refused |= write(room, n, log2, list, n, count);
+        }
+        add(room, n);
+        add((const short *)list, 2 * n);
+    }
+    return refused;
+}
+
 __attribute__((noreturn, used)) void run(const u64 *stack)
 {
     const char *const *words = (const char *const *)(stack + 1);
@@ -211,6 +247,8 @@ __attribute__((noreturn, used)) void run(const u64 *stack)
     case 's': refused = scale_all(log2_w, counted); break;
     case 'f': refused = code_all(log2_w, 0, counted); break;
     case 'g': refused = code_all(log2_w, 1, counted); break;
+    case 'w': refused = list_all(log2_w, 0, counted); break;
+    case 'r': refused = list_all(log2_w, 1, counted); break;
     default: refused = quantise_all(log2_w, counted);
     }
 

@@ -1,8 +1,9 @@
 //! Which refusal document 01 gives a call, and of which component: the tests of each call, in its order, written from
-//! its text alone; document 02's of the two calls of the way back; and those of the guarded call and of `measure`.
+//! its text alone; document 02's of the two calls of the way back and of the two of run lists; and those of the guarded
+//! call and of `measure`.
 
-use crate::calls::{Guarded, Inverse, Measure, Quantise, ScaleBack, SubBlock, Transform};
-use crate::guarded;
+use crate::calls::{Guarded, Inverse, Measure, Quantise, Read, ScaleBack, SubBlock, Transform, Write};
+use crate::{guarded, symbols};
 
 /// A refusal's number and the component that it is reported with.
 pub type Fault = (u32, usize);
@@ -110,5 +111,25 @@ pub fn inverse(call: &Inverse) -> Option<Fault> {
     first(vec![
         (1, 0, Box::new(|| !(1..=5).contains(&call.log2_w) || !(1..=5).contains(&call.log2_h))),
         (5, 0, Box::new(|| call.buffer.len() < call.needs())),
+    ])
+}
+
+/// "10 ROOM when the list has fewer places than nonzero levels, after 1, 5, 6 (a level of -32768 is 6)"
+pub fn write(call: &Write) -> Option<Fault> {
+    let block = || &call.buffer[..call.needs()];
+    first(vec![
+        (1, 0, Box::new(|| !(1..=5).contains(&call.log2_side))),
+        (5, 0, Box::new(|| call.buffer.len() < call.needs())),
+        (6, 0, Box::new(|| block().contains(&-32768))),
+        (10, 0, Box::new(|| call.list.len() < block().iter().filter(|level| **level != 0).count())),
+    ])
+}
+
+/// "the reader gives 1, 5, then 11 SYMBOL"
+pub fn read(call: &Read) -> Option<Fault> {
+    first(vec![
+        (1, 0, Box::new(|| !(1..=5).contains(&call.log2_side))),
+        (5, 0, Box::new(|| call.buffer.len() < call.needs())),
+        (11, 0, Box::new(|| symbols::wrong(&call.list, call.needs()) != 0)),
     ])
 }

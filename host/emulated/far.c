@@ -1,6 +1,7 @@
 /* Makes the calls that near.c sends, with the archive that it is linked with, until there are no more. */
 #include "call.h"
 #include <stdlib.h>
+#include <string.h>
 #include <unistd.h>
 
 static int all_read(void *to, size_t n)
@@ -32,6 +33,21 @@ static uint32_t quantised(quantise *call, struct call *c, int16_t *buffer)
     return call(buffer, c->len, c->log2_a, c->qp[0], c->lambda[0], c->flags, &c->costs, c->answer);
 }
 
+static uint32_t with_list(struct call *c, int16_t *block)
+{
+    size_t len = c->len - 2 * c->list, bytes = c->list * sizeof(uint32_t);
+    uint32_t *list = malloc(bytes + sizeof *list); /* aligned, as it may not be behind the block */
+    if (!list)
+        exit(1);
+    memcpy(list, block + len, bytes);
+    uint32_t result = c->what == WRITE_SYMBOLS
+        ? galemosu_write_symbols(block, len, c->log2_a, list, c->list, c->answer)
+        : galemosu_read_symbols(list, c->list, block, len, c->log2_a);
+    memcpy(block + len, list, bytes);
+    free(list);
+    return result;
+}
+
 static uint32_t made(struct call *c, int16_t *buffer)
 {
     switch (c->what) {
@@ -48,6 +64,8 @@ static uint32_t made(struct call *c, int16_t *buffer)
     case MEASURE:
         return galemosu_measure(buffer, c->residuals, buffer + c->residuals, c->len - c->residuals, c->log2_a, c->qp[0],
             c->flags, c->answer);
+    case WRITE_SYMBOLS:
+    case READ_SYMBOLS: return with_list(c, buffer);
     default:
         return galemosu_sub_block(buffer, c->len, c->log2_a, c->qp, c->lambda, c->run, c->flags, &c->costs, c->answer);
     }

@@ -143,3 +143,37 @@ uint32_t galemosu_measure(const int16_t *residuals, size_t residuals_len, const 
     memcpy(answer, c.answer, 2 * sizeof *answer);
     return c.result;
 }
+
+/* A call over a block and a list: both go there, and what is written of them comes back. */
+static void relayed_both(struct call *c, const int16_t *block, size_t len, const uint32_t *list, size_t list_len,
+    int16_t *block_back, uint32_t *list_back)
+{
+    size_t bytes = list_len * sizeof *list;
+    int16_t *both = malloc(len * sizeof *both + bytes + 2);
+    if (!both)
+        stop("no memory");
+    memcpy(both, block, len * sizeof *both), memcpy(both + len, list, bytes);
+    c->len = len + 2 * list_len, c->list = list_len;
+    relayed(c, both);
+    if (block_back)
+        memcpy(block_back, both, len * sizeof *both);
+    if (list_back)
+        memcpy(list_back, both + len, bytes);
+    free(both);
+}
+
+uint32_t galemosu_write_symbols(const int16_t *block, size_t len, size_t log2_side, uint32_t *list, size_t list_len,
+    uint64_t answer[1])
+{
+    struct call c = {.what = WRITE_SYMBOLS, .log2_a = log2_side};
+    relayed_both(&c, block, len, list, list_len, 0, list);
+    answer[0] = c.answer[0];
+    return c.result;
+}
+
+uint32_t galemosu_read_symbols(const uint32_t *list, size_t list_len, int16_t *block, size_t len, size_t log2_side)
+{
+    struct call c = {.what = READ_SYMBOLS, .log2_a = log2_side};
+    relayed_both(&c, block, len, list, list_len, block, 0);
+    return c.result;
+}

@@ -1,6 +1,6 @@
 /* Calls every function of galemosu.h: document 01's P1 and P5, a block on which the two modes differ, a refusal of
  * each kind of call, flags and run bits that mean nothing, each pair of the costs by its name, the way back of a
- * block, and a block held to heights. Status 0 if all is as it must be. */
+ * block, a block held to heights, and a block as a list of symbols and back. Status 0 if all is as it must be. */
 #include "galemosu.h"
 #include <string.h>
 
@@ -212,11 +212,65 @@ static int guarded_is_right(void)
         && answer[0] == 0 && answer[1] == 0 && answer[7] == 0 && !memcmp(refused, seen, sizeof seen);
 }
 
+/* Symbols of a 4x4 block with a surplus behind the block and behind the list; 1, 5, 6, and 10 where a place is missing;
+ * the empty block. */
+static int write_symbols_is_right(void)
+{
+    int16_t block[17] = {[1] = -3, [4] = 7, [7] = 32767, [12] = -1, [16] = -32768};
+    int16_t low[16] = {[15] = -32768}, none[4] = {0};
+    uint32_t list[5] = {9, 8, 7, 6, 5}, held[5] = {9, 8, 7, 6, 5};
+    uint64_t answer[1] = {5};
+    if (galemosu_write_symbols(low, 15, 0, list, 5, answer) != GALEMOSU_SIDE || answer[0]
+        || galemosu_write_symbols(low, 15, 6, list, 5, answer) != GALEMOSU_SIDE
+        || galemosu_write_symbols(low, 15, 2, list, 5, answer) != GALEMOSU_LENGTH
+        || galemosu_write_symbols(low, 16, 2, list, 0, answer) != GALEMOSU_SAMPLE
+        || galemosu_write_symbols(block, 17, 2, list, 3, answer) != GALEMOSU_ROOM || answer[0]
+        || memcmp(list, held, sizeof list))
+        return 0;
+    answer[0] = 5;
+    if (galemosu_write_symbols(none, 4, 1, list, 0, answer) != GALEMOSU_ACCEPTED || answer[0]
+        || galemosu_write_symbols(block, 17, 2, list, 5, answer) != GALEMOSU_ACCEPTED || answer[0] != 4 || list[4] != 5)
+        return 0;
+    return list[0] == 33557505 && list[1] == 7168 && list[2] == 33555462 && list[3] == 100662274
+        && GALEMOSU_SYMBOL_RUN(list[2]) == 6 && GALEMOSU_SYMBOL_MAGNITUDE(list[3]) == 32767
+        && GALEMOSU_SYMBOL_NEGATIVE(list[2]) && !GALEMOSU_SYMBOL_NEGATIVE(list[3]) && GALEMOSU_SYMBOL_LAST(list[3])
+        && !GALEMOSU_SYMBOL_LAST(list[2]);
+}
+
+/* The same block back, over another; 1, 5, and each kind of 11; the empty list. */
+static int read_symbols_is_right(void)
+{
+    enum { LAST = 1 << 26 };
+    static const uint32_t wrong[][2] = {
+        {1024, 3 | LAST},                 /* a magnitude of 0 */
+        {1024, 1 << 27 | 1024 | LAST},    /* an unused bit */
+        {1024, 1u << 31 | 1024 | LAST},   /* another */
+        {1024, 1024 + 3 + LAST},          /* past the block */
+        {1024, 1024},                     /* no last mark */
+        {1024 | LAST, 1024 | LAST},       /* one behind it */
+    };
+    uint32_t list[] = {33557505, 7168, 33555462, 100662274};
+    int16_t block[17], right[17] = {[1] = -3, [4] = 7, [7] = 32767, [12] = -1, [16] = 77}, held[4] = {5, 6, 7, 8};
+    for (int i = 0; i < 17; i++)
+        block[i] = 77;
+    for (unsigned i = 0; i < sizeof wrong / sizeof *wrong; i++) {
+        int16_t small[4] = {5, 6, 7, 8};
+        if (galemosu_read_symbols(wrong[i], 2, small, 4, 0) != GALEMOSU_SIDE
+            || galemosu_read_symbols(wrong[i], 2, small, 3, 1) != GALEMOSU_LENGTH
+            || galemosu_read_symbols(wrong[i], 2, small, 4, 1) != GALEMOSU_SYMBOL || memcmp(small, held, sizeof small))
+            return 0;
+    }
+    if (galemosu_read_symbols(list, 4, block, 17, 2) != GALEMOSU_ACCEPTED || memcmp(block, right, sizeof block))
+        return 0;
+    return galemosu_read_symbols(list, 0, block, 17, 2) == GALEMOSU_ACCEPTED && block[1] == 0 && block[12] == 0
+        && block[16] == 77;
+}
+
 int main(void)
 {
     all_costs(32768);
     return !(galemosu_version() == GALEMOSU_VERSION && transform_is_right() && quantise_is_right() && modes_are_right()
         && skip_is_right() && costs_are_right() && sub_block_is_right(INTRA)
         && sub_block_is_right(INTRA | GALEMOSU_LEAST) && scale_back_is_right() && inverse_is_right()
-        && measure_is_right() && guarded_is_right());
+        && measure_is_right() && guarded_is_right() && write_symbols_is_right() && read_symbols_is_right());
 }

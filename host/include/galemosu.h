@@ -1,32 +1,37 @@
-/* The proved transform and quantiser of an EVC recorder, and their way back: libgalemosu.a, version 0.5.0.
+/* The proved transform and quantiser of an EVC recorder, and their way back: libgalemosu.a, version 0.6.0.
  *
  * The recorder's half is galemosu_transform, galemosu_quantise_* and galemosu_sub_block; the viewer's is
  * galemosu_scale_back and galemosu_inverse. Both together are galemosu_guarded_sub_block, which holds every sample of
- * what is shown to heights that the host names, and galemosu_measure. docs/HOSTING.md walks through coding and showing
- * one block; docs/PROMISES.md says what is proved. Of the calls without "guarded" what is proved speaks of residuals,
- * coefficients, levels and prices, never of how far a sample that a viewer shows is off (docs/ANSWER.md).
+ * what is shown to heights that the host names, and galemosu_measure. Between the two, galemosu_write_symbols lists the
+ * levels of a block for the entropy coder, and galemosu_read_symbols makes the block of such a list again.
+ * docs/HOSTING.md walks through coding and showing one block; docs/PROMISES.md says what is proved. Of the calls
+ * without "guarded" what is proved speaks of residuals, coefficients, levels, symbols and prices, never of how far a
+ * sample that a viewer shows is off (docs/ANSWER.md).
  *
- * RESULTS. Every call comes back, for all numbers, lengths and samples. The result is 0 (GALEMOSU_ACCEPTED) or the
- * number of the first fault that holds, in the order of enum galemosu_refusal; a refused buffer then holds what it
- * held. A host treats every result but 0 as a refusal, also a number that this header does not name.
+ * RESULTS. Every call comes back, for all numbers, lengths, samples and lists. The result is 0 (GALEMOSU_ACCEPTED) or
+ * the number of the first fault that holds, in the order of enum galemosu_refusal; a refused buffer or list then holds
+ * what it held. A host treats every result but 0 as a refusal, also a number that this header does not name.
  *
  * ANSWERS. `answer` is written in either case. Of a refusal it has the component (0, 1, 2 for Y, U, V; 0 where the
  * fault belongs to none: GALEMOSU_SIDE, GALEMOSU_COST, GALEMOSU_LENGTH) and zeros. galemosu_transform,
- * galemosu_scale_back and galemosu_inverse have no answer, and galemosu_measure's has no component: they treat all
- * components alike, and a fault of theirs belongs to none.
+ * galemosu_scale_back, galemosu_inverse and galemosu_read_symbols have no answer, and those of galemosu_measure and
+ * galemosu_write_symbols have no component: they treat all components alike, and a fault of theirs belongs to none.
  *
- * MEMORY. A block or buffer is a pointer and a length in samples. What lies behind the block in a longer buffer is
- * neither read nor changed. Pointers are not null, also at length 0, and aligned to their type; arrays have the lengths
- * written here. What a call writes (block or buffer, answer) must not overlap anything else that it is lent; what it
- * only reads (costs, qp, lambda, heights, residuals, levels) may be shared by calls that run at the same time.
+ * MEMORY. A block or buffer is a pointer and a length in samples, a list a pointer and a length in symbols. What lies
+ * behind the block in a longer buffer is neither read nor changed, and so what lies behind the symbols in a longer list
+ * that is written. Pointers are not null, also at length 0, and aligned to their type; arrays have the lengths written
+ * here. What a call writes (block or buffer, list, answer) must not overlap anything else that it is lent; what it only
+ * reads (costs, qp, lambda, heights, residuals, levels, a list of symbols) may be shared by calls that run at the same
+ * time.
  *
  * STATE AND THREADS. There is none to set up or to keep: no writable global, no allocation, no lock, no file. A call
  * depends on its arguments alone, and calls may run on any threads at the same time. Of C's library only memcpy and
  * memset are asked for. Floating point is used for lambda alone, and must round to nearest, as C does at its start.
  *
  * STACK. A call takes at most 16 KB in galemosu_transform and in galemosu_quantise_*, 18 KB in galemosu_inverse, 20 KB
- * in galemosu_sub_block and in galemosu_measure, 36 KB in galemosu_guarded_sub_block, 1 KB in galemosu_scale_back:
- * measured by host/include/stack.c, which fails where it is more.
+ * in galemosu_sub_block and in galemosu_measure, 36 KB in galemosu_guarded_sub_block, 1 KB in galemosu_scale_back, 6 KB
+ * in galemosu_write_symbols and in galemosu_read_symbols: measured by host/include/stack.c, which fails where it is
+ * more.
  *
  * TARGETS. 64-bit processors only: this is asserted below.
  */
@@ -41,7 +46,7 @@ extern "C" {
 #endif
 
 /* major*10000 + minor*100 + patch, of this header */
-#define GALEMOSU_VERSION 500
+#define GALEMOSU_VERSION 600
 
 /* The same of the archive that was linked. A host compares the two once, at its start: an archive of another version
  * may read other arguments. */
@@ -54,10 +59,13 @@ enum galemosu_refusal {
     GALEMOSU_LAMBDA = 3,     /* a NaN, below 0 or above 8192 (-0.0 is taken) */
     GALEMOSU_COST = 4,       /* one of the 28 entries is above 1,048,576, whether this call would use it or not */
     GALEMOSU_LENGTH = 5,     /* the buffer is shorter than the block; galemosu_sub_block needs 3/2 of luma's */
-    GALEMOSU_SAMPLE = 6,     /* a residual is outside -1023..1023; of galemosu_quantise_*, a coefficient is -32768 */
+    GALEMOSU_SAMPLE = 6,     /* a residual is outside -1023..1023; of galemosu_quantise_*, a coefficient is -32768;
+                              * of galemosu_write_symbols, a level is */
     GALEMOSU_LEVEL = 7,      /* a rounded magnitude is above 32767 */
     GALEMOSU_PRICE = 8,      /* lambda's whole number times the largest rounded magnitude plus one is above 2^41 */
     GALEMOSU_DISTORTION = 9, /* the squared errors of the block left uncoded add up to more than 2^60 */
+    GALEMOSU_ROOM = 10,      /* the list has fewer places than the block has levels that are not 0 */
+    GALEMOSU_SYMBOL = 11,    /* the list is no block's: see galemosu_read_symbols */
     GALEMOSU_HEIGHT = 15     /* of a guarded block: no candidate costs less than 2^62 with all samples in the heights */
 };
 
@@ -190,6 +198,28 @@ uint32_t galemosu_guarded_sub_block(int16_t *buffer, size_t len, size_t log2_lum
  * in this order. No sample is refused. */
 uint32_t galemosu_measure(const int16_t *residuals, size_t residuals_len, const int16_t *levels, size_t levels_len,
     size_t log2_side, uint32_t qp, uint32_t flags, uint64_t answer[2]);
+
+/* SYMBOLS. A finished block as a list for the entropy coder: one symbol for each level that is not 0, in scan order. A
+ * symbol is the run of zeros before the level (back to the one before, or to the block's beginning) in the 10 lowest
+ * bits, 15 bits of magnitude above it, the sign, 1 where it is negative, and the last mark, 1 on the list's last
+ * symbol; the 5 highest bits are 0. The empty block has the empty list. Reading what was written gives the block back,
+ * and a list that is read is the one that is written of its block: this is proved. */
+#define GALEMOSU_SYMBOL_RUN(symbol) ((symbol) & 1023u)
+#define GALEMOSU_SYMBOL_MAGNITUDE(symbol) ((symbol) >> 10 & 32767u)
+#define GALEMOSU_SYMBOL_NEGATIVE(symbol) ((symbol) >> 25 & 1u)
+#define GALEMOSU_SYMBOL_LAST(symbol) ((symbol) >> 26 & 1u)
+
+/* The levels of a square block of side 2^log2_side, by rows, become symbols at the front of list; answer is how many
+ * there are, 0 where the call is refused. As many places as the block has always suffice. Tests 1, 5, 6 (a level of
+ * -32768) and 10, in this order. */
+uint32_t galemosu_write_symbols(const int16_t *block, size_t len, size_t log2_side, uint32_t *list, size_t list_len,
+    uint64_t answer[1]);
+
+/* The symbols of a whole list become the levels of a square block of side 2^log2_side, by rows: each level behind its
+ * zeros in scan order, and 0 behind the last. list_len is the number of symbols, not of places. Tests 1, 5 and 11, in
+ * this order; 11 where a magnitude is 0, an unused bit is set, a run goes past the block, the last symbol has no last
+ * mark, or another one has it. */
+uint32_t galemosu_read_symbols(const uint32_t *list, size_t list_len, int16_t *block, size_t len, size_t log2_side);
 
 #ifdef __cplusplus
 }

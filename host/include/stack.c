@@ -1,7 +1,8 @@
 /* How much stack the calls of galemosu.h take: the memory below this program's own frame is filled with one byte, a
  * call is made, and the lowest byte that has changed tells. Every shape, side, component and mode, on blocks that are
  * skipped and blocks of which every level is kept; the way back on the same blocks, taken for levels and coefficients;
- * the guarded call with heights that nothing exceeds, and with 0, so that every candidate is tried.
+ * the guarded call with heights that nothing exceeds, and with 0, so that every candidate is tried; the same blocks as
+ * symbols, and lists with a symbol for every place.
  * Prints the most of each call in bytes, 512 where it is no more than that; status 1 where one takes more than
  * galemosu.h says. What memcpy and memset take counts. */
 #include "galemosu.h"
@@ -16,7 +17,7 @@ static uint32_t flags, qp[3] = {4, 4, 4};
 static double lambda[3] = {0.25, 0.25, 0.25};
 static galemosu_costs costs;
 static uint64_t answer[13];
-static uint32_t heights[6];
+static uint32_t heights[6], list[1024];
 static uint32_t refused;
 
 static void transform(void) { refused |= galemosu_transform(block, 1024, log2_a, log2_b); }
@@ -47,6 +48,15 @@ static void guarded(void)
 }
 static void measure(void) { refused |= galemosu_measure(block, 1024, block, 1024, log2_a, qp[0], 0, answer); }
 static void inverse(void) { refused |= galemosu_inverse(block, 1024, log2_a, log2_b); }
+static void write_symbols(void) { refused |= galemosu_write_symbols(block, 1024, log2_a, list, 1024, answer); }
+static void read_symbols(void)
+{
+    size_t n = (size_t)1 << 2 * log2_a;
+    for (size_t i = 0; i < n; i++)
+        list[i] = 1024; /* no zero before it, magnitude 1 */
+    list[n - 1] |= 1 << 26;
+    refused |= galemosu_read_symbols(list, n, block, 1024, log2_a);
+}
 
 /* The bytes below this frame that a call has changed, from the lowest of them up. */
 static __attribute__((noinline)) size_t depth(void (*call)(void), unsigned char paint)
@@ -115,6 +125,8 @@ int main(void)
     good &= within("galemosu_inverse", most_of(inverse, 1), 18 * 1024);
     good &= within("galemosu_guarded_sub_block", most_of(guarded, 2), 36 * 1024);
     good &= within("galemosu_measure", most_of(measure, 1), 20 * 1024);
+    good &= within("galemosu_write_symbols", most_of(write_symbols, 1), 6 * 1024);
+    good &= within("galemosu_read_symbols", most_of(read_symbols, 1), 6 * 1024);
     if (refused)
         printf("a call was refused: not all was measured\n");
     return !good || refused;

@@ -6,9 +6,13 @@
 //! [`scale_back`] turns the levels of a square block into coefficients, and [`inverse`] turns coefficients into
 //! residuals. Both at once: [`guarded_sub_block`] is [`sub_block`] held to heights, so that no sample is shown darker
 //! or lighter than the camera saw it by more than the host allows, and [`measure`] says how far the samples of any
-//! levels are off. All work on lent slices of any length, in place but for `measure`, which writes nothing, and look at
-//! everything themselves: every call comes back, for all settings, lengths and samples. A refused call says why, as a
-//! [`Refused`] or a [`Refusal`], and leaves the lent block as it was.
+//! levels are off. Between the two halves: [`write_symbols`] lists the levels of a square block for the entropy coder,
+//! and [`read_symbols`] makes the block of such a list again.
+//!
+//! All work on lent slices of any length, in place but for `measure`, which writes nothing, and the two that go from a
+//! block to a list and back, and look at everything themselves: every call comes back, for all settings, lengths,
+//! samples and lists. A refused call says why, as a [`Refused`] or a [`Refusal`], and leaves what it was lent as it
+//! was.
 //!
 //! ```
 //! use galemosu::{inverse, quantise, scale_back, transform, Component, Costs, Quantise, Refused, Settings};
@@ -35,6 +39,9 @@
 //! much of that a viewer can see of [`sub_block`] is measured, not proved, in `docs/ANSWER.md`. Of
 //! [`guarded_sub_block`] it is proved how far a sample that is shown can be off: by the heights, and no more, before
 //! any filter. The Rust of this crate is not proved.
+//!
+//! Of the run lists it is proved that reading what was written gives the block back, and that every list which the
+//! reader accepts is the one that the writer gives of its block: no two lists tell one block.
 //!
 //! Of the way back it is proved that the two calls give the numbers of their definition, the formulas that stand at
 //! [`scale_back`] and [`inverse`]: document 02's, as the standard's own text, ISO/IEC 23094-1, was not at hand. They
@@ -65,8 +72,8 @@
 //!
 //! There is no state to set up or to keep: no writable global, no allocation, no lock. A call depends on its arguments
 //! alone, and calls may run on any threads at the same time. A call takes at most 16 KB of stack in `transform` and in
-//! `quantise`, 18 KB in `inverse`, 20 KB in `sub_block` and in `measure`, 36 KB in `guarded_sub_block` and 1 KB in
-//! `scale_back` (measured by `host/include/stack.c`).
+//! `quantise`, 18 KB in `inverse`, 20 KB in `sub_block` and in `measure`, 36 KB in `guarded_sub_block`, 1 KB in
+//! `scale_back`, and 6 KB in `write_symbols` and in `read_symbols` (measured by `host/include/stack.c`).
 //! The crate is `no_std`; the archive asks for `memcpy` and `memset` and nothing else, rounds lambda in the
 //! floating-point mode that it finds, which must be to nearest, and is for 64-bit targets only.
 
@@ -82,11 +89,13 @@ compile_error!("galemosu is for 64-bit targets only");
 mod costs;
 pub mod raw;
 mod refused;
+mod symbol;
 #[cfg(test)]
 mod tests;
 
 pub use costs::Costs;
 pub use refused::{Component, Refusal, Refused};
+pub use symbol::Symbol;
 
 /// The example of README.md, compiled and run.
 #[cfg(doctest)]
@@ -99,7 +108,7 @@ struct Readme;
 struct Hosting;
 
 /// The version of the archive that this crate is for: major·10000 + minor·100 + patch.
-pub const VERSION: u32 = 500;
+pub const VERSION: u32 = 600;
 
 /// The version of the archive that was linked. A host compares it with [`VERSION`] once, at its start: an archive of
 /// another version may read other arguments.
@@ -529,4 +538,68 @@ pub fn measure(residuals: &[i16], levels: &[i16], log2_side: usize, qp: u32) -> 
         None => Ok(Extremes { darker: answer[0] as u32, lighter: answer[1] as u32 }),
         Some(refusal) => Err(refusal.into()),
     }
+}
+
+/// The levels of the square block at the front of `levels`, of side 2^log2_side by rows, as symbols: one for each level
+/// that is not 0, in scan order. They are written to the front of `list`, and that stretch of it is given back; what
+/// lies behind it is neither read nor changed. An empty block has no symbols.
+///
+/// A list with as many places as the block has always suffices; [`Coded::count`](Coded::count) places are enough for a
+/// block that [`quantise`] has written. Each is a packed [`Symbol`]. Refusals, in this order: `Side` for a log2 side
+/// outside 1..5, `Length` for a short buffer of levels, `Sample` for a level of -32768, `Room` for a list with fewer
+/// places than there are levels other than 0. A refused list holds what it held.
+///
+/// ```
+/// use galemosu::{read_symbols, write_symbols, Symbol};
+///
+/// let levels = [0, 3, 0, -7]; // 2×2
+/// let mut list = [0; 4];
+/// let symbols = write_symbols(&levels, 1, &mut list)?;
+/// assert_eq!(symbols, [u32::from(Symbol::new(1, 3, false)?), u32::from(Symbol::new(1, -7, true)?)]);
+///
+/// let mut block = [99; 4];
+/// read_symbols(symbols, &mut block, 1)?;
+/// assert_eq!(block, levels);
+/// # Ok::<(), galemosu::Refusal>(())
+/// ```
+pub fn write_symbols<'a>(levels: &[i16], log2_side: usize, list: &'a mut [u32]) -> Result<&'a [u32], Refusal> {
+    let mut answer = [0u64; 1];
+    // SAFETY: both are lent slices, whose pointers are not null and are aligned; they do not overlap, as one of them is
+    // lent to be written; the answer has the length that the call writes, and outlives it.
+    let number = unsafe {
+        let (room, len) = (list.as_mut_ptr(), list.len());
+        raw::galemosu_write_symbols(levels.as_ptr(), levels.len(), log2_side, room, len, answer.as_mut_ptr())
+    };
+    match Refusal::of(number) {
+        None => Ok(list.get(..answer[0] as usize).unwrap_or(&[])),
+        Some(refusal) => Err(refusal),
+    }
+}
+
+/// The square block that a list of symbols tells, of side 2^log2_side by rows, at the front of `block`: each symbol's
+/// level behind its zeros in scan order, and 0 behind the last. What lies behind the block is neither read nor changed.
+///
+/// The list is taken whole: lend the stretch that [`write_symbols`] gave back, or as many symbols as were decoded. The
+/// empty list is the empty block. Refusals, in this order: `Side` for a log2 side outside 1..5, `Length` for a short
+/// buffer, then `Symbol` where the list is no block's: a magnitude of 0, an unused bit that is set, a run past the
+/// block, no last mark on the last symbol, or a symbol behind one that has it. A refused block holds what it held.
+///
+/// ```
+/// use galemosu::{read_symbols, Refusal, Symbol};
+///
+/// let mut block = [5; 4];
+/// assert_eq!(read_symbols(&[Symbol::new(3, -2, true)?.into()], &mut block, 1), Ok(()));
+/// assert_eq!(block, [0, 0, 0, -2]);
+/// let past_the_block = Symbol::new(4, -2, true)?.into();
+/// assert_eq!(read_symbols(&[past_the_block], &mut block, 1), Err(Refusal::Symbol));
+/// assert_eq!(read_symbols(&[], &mut block, 1), Ok(()));
+/// assert_eq!(block, [0; 4]);
+/// # Ok::<(), Refusal>(())
+/// ```
+pub fn read_symbols(list: &[u32], block: &mut [i16], log2_side: usize) -> Result<(), Refusal> {
+    // SAFETY: both are lent slices, whose pointers are not null and are aligned; they do not overlap, as one of them is
+    // lent to be written.
+    let number =
+        unsafe { raw::galemosu_read_symbols(list.as_ptr(), list.len(), block.as_mut_ptr(), block.len(), log2_side) };
+    Refusal::of(number).map_or(Ok(()), Err)
 }

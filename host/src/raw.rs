@@ -5,10 +5,11 @@
 //!
 //! Of every function but [`galemosu_version`]: pointers are not null and are aligned, also at length 0. `block` or
 //! `buffer` is `len` samples, `residuals` and `levels` are as many samples as the number behind each says, `costs` is a
-//! [`Costs`], `qp` and `lambda` are three numbers each, `heights` six, `answer` is three numbers of
-//! [`galemosu_quantise_y`] and its kind, seven of [`galemosu_sub_block`], thirteen of [`galemosu_guarded_sub_block`],
-//! two of [`galemosu_measure`]. What is written (`block` or `buffer`, `answer`) overlaps nothing else that is lent.
-//! Nothing is asked of what the numbers are.
+//! [`Costs`], `qp` and `lambda` are three numbers each, `heights` six, `list` is `list_len` symbols, `answer` is three
+//! numbers of [`galemosu_quantise_y`] and its kind, seven of [`galemosu_sub_block`], thirteen of
+//! [`galemosu_guarded_sub_block`], two of [`galemosu_measure`], one of [`galemosu_write_symbols`]. What is written
+//! (`block` or `buffer`, the list of [`galemosu_write_symbols`], `answer`) overlaps nothing else that is lent. Nothing
+//! is asked of what the numbers are.
 
 use crate::Costs;
 
@@ -97,5 +98,24 @@ extern "C" {
         qp: u32,
         flags: u32,
         answer: *mut u64,
+    ) -> u32;
+
+    /// Writes the levels of a square block to a list as symbols; `answer` is how many there are.
+    pub fn galemosu_write_symbols(
+        block: *const i16,
+        len: usize,
+        log2_side: usize,
+        list: *mut u32,
+        list_len: usize,
+        answer: *mut u64,
+    ) -> u32;
+
+    /// Turns a whole list of symbols into the square block that it tells.
+    pub fn galemosu_read_symbols(
+        list: *const u32,
+        list_len: usize,
+        block: *mut i16,
+        len: usize,
+        log2_side: usize,
     ) -> u32;
 }

@@ -15,7 +15,8 @@ pub enum Refusal {
     Cost,
     /// 5: the buffer is shorter than the block, or than 3/2 of luma's block where it holds three components.
     Length,
-    /// 6: a residual is outside ±1023, or, in the quantiser alone, a coefficient is -32768.
+    /// 6: a residual is outside ±1023, or, in the quantiser alone, a coefficient is -32768, or a level that is to be
+    /// written as a symbol.
     Sample,
     /// 7: a rounded magnitude is above 32767.
     Level,
@@ -23,6 +24,11 @@ pub enum Refusal {
     Price,
     /// 9: the squared errors of the block left uncoded add up to more than 2^60.
     Distortion,
+    /// 10: the list has fewer places than the block has levels that are not 0.
+    Room,
+    /// 11: a list of symbols is no block's: a magnitude of 0, an unused bit that is set, a run past the block, no last
+    /// mark on the last symbol, or a symbol behind one that has it.
+    Symbol,
     /// 15: no candidate of a guarded block has a price below 2^62 and samples within the heights: not even with every
     /// level rounded.
     Height,
@@ -44,6 +50,8 @@ impl Refusal {
             7 => Refusal::Level,
             8 => Refusal::Price,
             9 => Refusal::Distortion,
+            10 => Refusal::Room,
+            11 => Refusal::Symbol,
             15 => Refusal::Height,
             other => Refusal::Unknown(other),
         })
@@ -61,14 +69,18 @@ impl Refusal {
             Refusal::Level => 7,
             Refusal::Price => 8,
             Refusal::Distortion => 9,
+            Refusal::Room => 10,
+            Refusal::Symbol => 11,
             Refusal::Height => 15,
             Refusal::Unknown(number) => number,
         }
     }
 
-    /// Whether the quantiser tells a component with it: not so of sides, costs and lengths.
+    /// Whether the quantiser tells a component with it: not so of sides, costs and lengths, nor of rooms and symbols,
+    /// which it has none of.
     pub const fn is_of_a_component(self) -> bool {
-        !matches!(self, Refusal::Side | Refusal::Cost | Refusal::Length | Refusal::Unknown(_))
+        use Refusal::{Cost, Length, Room, Side, Symbol, Unknown};
+        !matches!(self, Side | Cost | Length | Room | Symbol | Unknown(_))
     }
 }
 
@@ -80,10 +92,12 @@ impl Display for Refusal {
             Refusal::Lambda => "lambda is not a number from 0 to 8192",
             Refusal::Cost => "an entry of the cost tables is above 1048576",
             Refusal::Length => "the buffer is too short",
-            Refusal::Sample => "a residual is outside -1023 to 1023, or a coefficient is -32768",
+            Refusal::Sample => "a residual is outside -1023 to 1023, or a coefficient or level is -32768",
             Refusal::Level => "a rounded magnitude is above 32767",
             Refusal::Price => "lambda times the largest rounded magnitude plus one is above 2^41",
             Refusal::Distortion => "the squared errors of the uncoded block add up to more than 2^60",
+            Refusal::Room => "the list has fewer places than the block has levels that are not 0",
+            Refusal::Symbol => "the list of symbols is no block's of this side",
             Refusal::Height => "no levels of this block bring every sample within the heights",
             Refusal::Unknown(_) => "a reason unknown to this version of the host crate",
         })
@@ -124,7 +138,7 @@ pub struct Refused {
     /// Why.
     pub refusal: Refusal,
     /// The component whose fault it is, where it is one's: not of sides, costs and lengths, nor in the transform,
-    /// scaling back, the inverse and the measuring, which work on whatever component it is.
+    /// scaling back, the inverse, the measuring and the run lists, which work on whatever component it is.
     pub component: Option<Component>,
 }
 
@@ -155,7 +169,7 @@ impl Display for Refused {
 
 impl Error for Refused {}
 
-/// What the transform, scaling back, the inverse and the measuring refuse belongs to no component.
+/// What the transform, scaling back, the inverse, the measuring and the run lists refuse belongs to no component.
 impl From<Refusal> for Refused {
     fn from(refusal: Refusal) -> Refused {
         Refused { refusal, component: None }

@@ -43,7 +43,7 @@ fn the_header_has_the_same_numbers() {
     defined("GALEMOSU_RUN_Y", SubBlock::RUN_Y);
     defined("GALEMOSU_RUN_U", SubBlock::RUN_U);
     defined("GALEMOSU_RUN_V", SubBlock::RUN_V);
-    for number in (1..=9).chain([15]) {
+    for number in (1..=11).chain([15]) {
         let name = format!("{:?}", Refusal::of(number).unwrap()).to_uppercase();
         assert!(header.contains(&format!("    GALEMOSU_{name} = {number}")), "{name} is not {number} in galemosu.h");
     }
@@ -56,7 +56,7 @@ fn every_number_but_0_is_a_refusal() {
     for number in (1..300).chain([1 << 16, 1 << 31, u32::MAX]) {
         let refusal = Refusal::of(number).unwrap();
         assert_eq!(refusal.number(), number);
-        assert_eq!(refusal == Refusal::Unknown(number), number > 9 && number != 15);
+        assert_eq!(refusal == Refusal::Unknown(number), number > 11 && number != 15);
         let strange = Refused { refusal: Refusal::Unknown(number), component: None };
         for (component, told) in COMPONENTS.into_iter().zip(0..) {
             let right = match refusal.is_of_a_component() {
@@ -75,7 +75,9 @@ fn a_refusal_says_what_it_is() {
     let said = |number, component| Refused::of(number, component).unwrap().to_string();
     assert_eq!(said(2, 1), "refused with 2 in U: QP is above 63");
     assert_eq!(said(5, 0), "refused with 5: the buffer is too short");
-    assert_eq!(said(10, 0), "refused with 10: a reason unknown to this version of the host crate");
+    assert_eq!(said(10, 0), "refused with 10: the list has fewer places than the block has levels that are not 0");
+    assert_eq!(said(11, 0), "refused with 11: the list of symbols is no block's of this side");
+    assert_eq!(said(12, 0), "refused with 12: a reason unknown to this version of the host crate");
     let error: &dyn Error = &Refused::from(Refusal::Sample);
     assert!(error.source().is_none());
 }
