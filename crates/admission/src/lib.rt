@@ -1,4 +1,6 @@
 // The tests that come before any arithmetic: sides, settings, costs, length and residuals, of what is run.
+#![tactic(auto)]
+
 ghost use Rattle.std.specs.Prelude.{◌≡◌, ◌&&◌, List, ◌≤◌, ltb, ℤ};
 ghost use Rattle.integers.specs.Tests.{some};
 ghost use Rattle.refusals.specs.Faults.{verdict};

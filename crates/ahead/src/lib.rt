@@ -1,5 +1,7 @@
 // One place of the search: passed where its m is 0, else weighed. What a magnitude costs here is added to the least
 // price of what it leaves to come.
+#![tactic(auto)]
+
 ghost use Rattle.std.specs.Prelude.{◌≡◌};
 ghost use Rattle.ahead.specs.Inner.Ahead.{ChosenOf, Passable, passed_by, Ready, WeighedBy};
 

@@ -1,5 +1,7 @@
 // The walk along the scan, before its cut: each place is passed or stepped at, and the level taken is put down. The
 // totals and the levels are the definition's (specs/Walk.antt and specs/Inner/OnePass.antt of `price`).
+#![tactic(auto)]
+
 ghost use Rattle.std.specs.Prelude.{◌≡◌, cond, ◌<◌, ◌+◌, ◌*◌, length};
 ghost use Rattle.price.specs.Rule.{is_zero};
 ghost use Rattle.price.specs.Price.{nonzeros};

@@ -1,5 +1,7 @@
 // What `label` is asked: the words behind its name, and the picture on standard input, a PGM. What is wrong with them
 // is said on standard error.
+#![tactic(auto)]
+
 ghost use Rattle.std.specs.Prelude.{◌<◌, ◌≤◌, length};
 ghost use Rattle.asked.specs.Asked.{Meant, Known};
 

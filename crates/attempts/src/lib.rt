@@ -1,5 +1,7 @@
 // The candidates of a guarded block in their order, from the first that puts a level back: the first that fits is left
 // in the levels' place, and reported; where none fits the block is refused.
+#![tactic(auto)]
+
 ghost use Rattle.std.specs.Prelude.{length};
 ghost use Rattle.attempts.specs.Inner.Candidates.{Repairable, RepairedAs};
 

@@ -1,6 +1,8 @@
 // The butterflies: the transform of one line of 2 to 32 values, handed over as the part of the block that it occupies.
 // A row then holds its coefficients in the order in which they arise. All sums are of 32 bits; the contracts say how
 // large a value may be for that.
+#![tactic(auto)]
+
 ghost use Rattle.std.specs.Prelude.{◌≡◌, ℕ, ◌+◌, ◌*◌, ◌^◌, ◌<◌, ◌≤◌, length, pos, nat_abs, ◌+ℤ◌, ◌*ℤ◌};
 ghost use Rattle.integers.specs.Sum.{at};
 ghost use Rattle.tables.specs.Matrix.{matrix};

@@ -1,5 +1,7 @@
 // The calls that requests ask for, made through the exports: the fields of a request as the numbers that cross to C,
 // and what the call left as a reply. The reply's text is the definition's (specs/Calls.antt).
+#![tactic(auto)]
+
 ghost use Rattle.std.proofs.Math.Option.{none, some};
 ghost use Rattle.std.specs.Prelude.{◌≡◌, ◌+◌, ◌≤◌, length, get_or, take, drop};
 ghost use Rattle.replies.specs.Reply.{list_if};

@@ -1,5 +1,7 @@
 // The repair of a guarded block: its coefficients are worked out again, they and the levels are read along the scan,
 // and the candidates that put levels back are tried in their order.
+#![tactic(auto)]
+
 ghost use Rattle.std.specs.Prelude.{◌≡◌, false, map, ◌*◌, ◌^◌, ◌≤◌, length, nat_abs};
 ghost use Rattle.integers.specs.Tests.{some};
 ghost use Rattle.refusals.specs.Sides.{most_log2};

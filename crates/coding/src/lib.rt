@@ -1,6 +1,8 @@
 // What becomes of the coefficients of a block: the inputs of the quantiser's call as one value, and in specs/ what the
 // call answers and leaves, as functions of them. proofs/ has what is promised of it. There is no function here:
 // `quantise` has the code, and its contracts are equations with these definitions.
+#![tactic(auto)]
+
 use price::Settings;
 use refusals::{Component, Refusal};
 

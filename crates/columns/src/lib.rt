@@ -1,5 +1,7 @@
 // Columns of a grid: a list of numbers, or the row of a line in the order of its coefficients, goes down one column,
 // and what stands in the other columns is kept.
+#![tactic(auto)]
+
 ghost use Rattle.std.specs.Prelude.{◌*◌, ◌^◌, ◌<◌, ◌≤◌, ◌≡◌, length};
 ghost use Rattle.integers.specs.Sum.{at};
 ghost use Rattle.refusals.specs.Sides.{most_log2};

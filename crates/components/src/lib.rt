@@ -1,5 +1,7 @@
 // The call over the three components of a block: what it is asked, and what it answers. Which answer that is, and what
 // the buffer then holds, is said in specs/; what follows from it in proofs/. The code of the call is another crate's.
+#![tactic(auto)]
+
 use coding::{Coded, Mode};
 use price::Settings;
 use refusals::{Component, Refusal};

@@ -1,5 +1,7 @@
 // The prices of a block: the cost tables read by a component's contexts, once, with lambda multiplied in. A rate by
 // these prices is lambda times the rate that the `price` crate defines.
+#![tactic(auto)]
+
 ghost use Rattle.std.specs.Prelude.{ℕ, ◌≤◌, ◌<◌, ◌+◌, ◌*◌, ◌^◌, length, get_or};
 ghost use Rattle.price.specs.Costs.{InRange, costs_of};
 ghost use Rattle.contexts.specs.Inner.Rows.{rows_in, Inside, ContextsOf};

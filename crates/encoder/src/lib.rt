@@ -1,4 +1,6 @@
 // An encoder's lambda at a QP, as the `label` program takes it where none is given: the definition's, in millionths.
+#![tactic(auto)]
+
 ghost use Rattle.std.specs.Prelude.{◌≡◌, ◌≤◌};
 ghost use Rattle.encoder.specs.Lambda.{third, usual_of};
 

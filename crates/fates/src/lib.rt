@@ -1,5 +1,7 @@
 // What became of the coefficients of a block: each level beside its rounded magnitude, and how many were kept, lowered
 // and dropped.
+#![tactic(auto)]
+
 ghost use Rattle.std.specs.Prelude.{◌≡◌, ◌+◌, ◌≤◌};
 ghost use Rattle.fates.specs.Fate.{fate_of, fate_at, none_yet, counted, Most};
 

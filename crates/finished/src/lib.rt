@@ -1,5 +1,7 @@
 // The price of a finished block, worked out from its magnitudes in scan order alone, by document 01's definition
 // (specs/Price.antt of `price`). Levels put back can cost more than 64 bits hold: the price is held at 2^62.
+#![tactic(auto)]
+
 ghost use Rattle.std.specs.Prelude.{◌≡◌, false, ℕ, ◌+◌, ◌*◌, ◌^◌, ◌≤◌, length, get_or, take, drop};
 ghost use Rattle.integers.specs.Sum.{over, on_ℕ};
 ghost use Rattle.scan.specs.Scan.{most_places};

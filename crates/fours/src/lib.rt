@@ -1,5 +1,7 @@
 // The last stage of a block with a side of 4. Its sums are of 64 bits, one line at a time, and become residuals at
 // once: no number has to be split for it.
+#![tactic(auto)]
+
 ghost use Rattle.std.specs.Prelude.{◌≡◌, ℕ, ◌+◌, ◌*◌, ◌^◌, ◌<◌, ◌≤◌, length, nat_abs};
 ghost use Rattle.integers.specs.Sum.{at};
 ghost use Rattle.integers.specs.Floor.{rounded};

@@ -1,5 +1,7 @@
 // The exports for C and Rust, nothing else: each takes whole numbers, f64s, slices and arrays, and answers 0 or a
 // refusal's number. What the numbers ask for, and what is left then, is said once, in `surface`.
+#![tactic(auto)]
+
 ghost use Rattle.std.specs.Prelude.{◌≡◌};
 ghost use Rattle.refusals.specs.declared.Component.TheVariants.{Y, U, «V»};
 ghost use Rattle.runs.specs.Call.{writing, reading};

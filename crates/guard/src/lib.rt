@@ -1,5 +1,7 @@
 // One component of the guarded call: the block that its mode writes, if what the viewer makes of it lies within the
 // host's heights, else the first candidate of which that holds.
+#![tactic(auto)]
+
 ghost use Rattle.std.specs.Prelude.{◌≡◌, ◌≤◌, length};
 ghost use Rattle.price.specs.Costs.{costs_of};
 ghost use Rattle.heights.specs.Extremes.{within};

@@ -1,5 +1,7 @@
 // The guarded call: transform and quantiser over the three components of a block, each guarded by the host's heights.
 // Nothing is written until every test of every component has passed.
+#![tactic(auto)]
+
 ghost use Rattle.std.specs.Prelude.{◌≡◌, ◌≤◌, length};
 ghost use Rattle.price.specs.Costs.{costs_of};
 ghost use Rattle.components.specs.Call.{requested};

@@ -1,6 +1,8 @@
 // The guarded block: the first of a block's candidates whose samples, as the viewer will show them, lie within the
 // host's heights. Here are what the guarded call is asked and what it answers; specs/ has the candidates and the call,
 // proofs/ what is promised. The code of the call is other crates'.
+#![tactic(auto)]
+
 use heights::Heights;
 use refusals::{Component, Refusal};
 

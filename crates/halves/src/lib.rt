@@ -1,6 +1,8 @@
 // The second stage of a block of 32 by 32, whose sums may need a bit more than 32 have: it yields their halves. Where a
 // line is small enough its sums are halved; a larger line is cut into its halves and what is left of them, and each
 // part is transformed.
+#![tactic(auto)]
+
 ghost use Rattle.std.specs.Prelude.{◌≡◌, ℕ, ◌+◌, ◌*◌, ◌^◌, ◌<◌, ◌≤◌, length, nat_abs, ◌+ℤ◌};
 ghost use Rattle.integers.specs.Sum.{at};
 ghost use Rattle.integers.specs.Tests.{some};

@@ -1,6 +1,8 @@
 // Standard input by lines, in a buffer that the caller lends. `next` finds lines in what stands there and reads
 // nothing, so that its contract accounts for every byte: a line is handed out, one that the buffer can't hold is passed
 // over and told, or more is asked for. `read` reads once, and tells more bytes, the end and a failure apart.
+#![tactic(auto)]
+
 ghost use Rattle.std.specs.Prelude.{◌≡◌, false, ◌+◌, ◌-◌, ◌≤◌, ◌<◌, length, take};
 ghost use Rattle.input.specs.Lines.{part, Within, Handed, Brought, arrival_of, tail_of};
 ghost use Rattle.input.specs.Inner.Search.{FirstNewline};

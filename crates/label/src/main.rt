@@ -3,6 +3,8 @@
 // the whole picture so, and where the two lie farthest apart; and last the picture shown, as a PGM. The picture comes
 // from standard input, as a PGM; the words behind the program's name are the QP, lambda in millionths, and the height
 // that no sample may be off by more than. What is wrong is said on standard error, and nothing further is shown then.
+#![tactic(auto)]
+
 ghost use Rattle.std.specs.Prelude.{◌≡◌, ◌<◌, ◌≤◌, length};
 ghost use Rattle.fates.specs.Fate.{Most};
 ghost use Rattle.asked.specs.Asked.{Sound};

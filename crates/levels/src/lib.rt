@@ -1,6 +1,8 @@
 // From the coefficients of a block to its levels, by rows: what is kept of them, the block that the mode writes of
 // that, and the signs put back. The block left, its count and its price are the definition's (specs/Block.antt of
 // `coding`).
+#![tactic(auto)]
+
 ghost use Rattle.std.specs.Prelude.{◌≤◌, ◌^◌};
 ghost use Rattle.refusals.specs.Sides.{most_log2};
 ghost use Rattle.coding.specs.Block.{written_in};

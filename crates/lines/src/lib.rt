@@ -1,6 +1,8 @@
 // The lines of the page of `label`, written to standard output: its head, a block with its levels and what became of
 // them, the sum, the two whole pictures and how far they lie apart, and the picture shown. Each function says whether
 // all was written.
+#![tactic(auto)]
+
 ghost use Rattle.std.specs.Prelude.{◌≤◌, ◌<◌, length};
 ghost use Rattle.picture.specs.Picture.{Sides};
 

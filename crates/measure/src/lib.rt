@@ -1,6 +1,8 @@
 // How far a block, as the viewer makes it of its levels, lies from its residuals: the levels are decoded by the
 // viewer's own arithmetic, and one pass over both finds the largest darkening and the largest lightening. The contracts
 // cite the definitions of `heights`.
+#![tactic(auto)]
+
 ghost use Rattle.std.specs.Prelude.{◌≡◌, ◌*◌, ◌^◌, ◌≤◌, max, length};
 ghost use Rattle.refusals.specs.Sides.{most_log2};
 ghost use Rattle.tables.specs.Scales.{back};

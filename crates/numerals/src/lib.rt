@@ -1,3 +1,5 @@
 // Words read as numbers: a word is read as a natural number, a sample or the bits of an f64, or it is malformed. What
 // is read is what the definitions in specs/ say, for all words.
+#![tactic(auto)]
+
 pub mod number;

@@ -1,5 +1,7 @@
 // Magnitudes of a block, and the two orders in which they stand: by rows, and along the scan. Taken from one to the
 // other and back, each is the place's own (specs/Inner/Places.antt of `weights`).
+#![tactic(auto)]
+
 ghost use Rattle.std.specs.Prelude.{◌≡◌, map, ◌≤◌, ◌*◌, length, nat_abs};
 ghost use Rattle.coefficients.specs.Inner.Coefficients.{Within};
 ghost use Rattle.weights.specs.Inner.Places.{in_scan, Scanned, Standing};

@@ -1,5 +1,7 @@
 // A symbol packed in a number, and taken out of it: the definitions of `runs`, in 32 bits. The width of a run's field
 // stands here once.
+#![tactic(auto)]
+
 ghost use Rattle.std.specs.Prelude.{◌≡◌, ◌<◌, ◌^◌};
 ghost use Rattle.runs.specs.Packing.{run_bits, mark, packed, unpacked, overfull};
 

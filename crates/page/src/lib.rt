@@ -1,5 +1,7 @@
 // The page as text: a block's samples as the camera saw them beside those shown, its levels by rows with their marks,
 // and rows of the two whole pictures, as greys and as PGM has them.
+#![tactic(auto)]
+
 ghost use Rattle.std.specs.Prelude.{◌≡◌, ◌≤◌, ◌<◌, ◌+◌, length};
 ghost use Rattle.fates.specs.Fate.{block_tally, Most};
 

@@ -1,6 +1,8 @@
 // The second stage of the inverse transform, where its sums may need more than 32 bits: what the first stage leaves is
 // cut into a high and a low part of 16 bits each, and behind the stage the two sums are joined, with the one rounding
 // and the clip.
+#![tactic(auto)]
+
 ghost use Rattle.std.specs.Prelude.{◌≡◌, ℕ, ◌<◌, ◌≤◌, length, nat_abs};
 ghost use Rattle.integers.specs.Sum.{at};
 ghost use Rattle.integers.specs.Floor.{rounded};

@@ -1,6 +1,8 @@
 // The two passes of the search: back along the scan with the least price of what is still to come, after a 0 and after
 // a nonzero level, noting what to choose at each place; then forth, reading it off. What is noted and what is read off
 // are the search's (specs/Inner/Search.antt of `price`).
+#![tactic(auto)]
+
 ghost use Rattle.std.specs.Prelude.{◌≡◌, ◌≤◌, ◌<◌, ◌*◌, length};
 ghost use Rattle.price.specs.Price.{nonzeros};
 ghost use Rattle.weights.specs.Inner.Places.{Scanned, Cleared};

@@ -1,5 +1,7 @@
 // A picture as PGM has it, read from its bytes: the header of P2 (numbers as text) and P5 (bytes), with comments, and
 // the samples, each scaled to 10 bits. What is wrong with a file is told by name. Nothing is read past the last sample.
+#![tactic(auto)]
+
 ghost use Rattle.std.specs.Prelude.{◌≡◌, ◌≤◌, ◌<◌, length};
 ghost use Rattle.pgm.specs.Gap.{is_blank, in_gap, goes_on, past_gap};
 ghost use Rattle.pgm.specs.Number.{is_digit, with_digit, digits_at, number_at, byte_at, pair_at, sample_at};

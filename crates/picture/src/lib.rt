@@ -1,6 +1,8 @@
 // A picture as samples by rows, up to 256 on a side, and its blocks of 8 by 8, counted along the rows. Where the
 // picture ends inside a block, its last column and its last row are repeated. What the viewer shows is kept block by
 // block as it comes, and is then put in the picture's own order.
+#![tactic(auto)]
+
 ghost use Rattle.std.specs.Prelude.{◌≡◌, ◌*◌, ◌≤◌, ◌<◌, min, length};
 ghost use Rattle.picture.specs.Picture.{Sides, across_of, down_of, row_of, column_of, place_of, inside_of, kept_of};
 ghost use Rattle.picture.specs.Picture.{Taken, Kept, ByRows};

@@ -1,6 +1,8 @@
 // What a level costs and what a finished block costs: the quantiser's numbers, the cost tables and lambda, each by a
 // definition of specs/ that says document 01's words. What is worked out at run time stands here: whether a lambda and
 // the cost tables are refused, and the whole number of an accepted lambda.
+#![tactic(auto)]
+
 ghost use Rattle.std.specs.Prelude.{◌≡◌, ◌+◌, ◌≤◌, false, length};
 ghost use Rattle.integers.specs.Tests.{some};
 ghost use Rattle.price.specs.Lambda.{lambda_refused, lambda_sum, LambdaWhole};

@@ -1,5 +1,7 @@
 // The line protocol: one request line, one answer line, over slices. A line that is no request is answered by
 // `malformed`. Each answer is the definition's, byte for byte (specs/Answer.antt).
+#![tactic(auto)]
+
 ghost use Rattle.std.specs.Prelude.{◌≡◌, ◌+◌, ◌*◌, ◌≤◌, length, take};
 ghost use Rattle.replies.specs.Reply.{Written};
 ghost use Rattle.requests.specs.Request.{kinds_of, Limited, behind_verb, behind_list, with_samples, exactly_of};

@@ -1,5 +1,7 @@
 // The quantiser of a square block of coefficients: the quick skip, or by the mode the walk cut where it is cheapest, or
 // the cheapest block of all.
+#![tactic(auto)]
+
 ghost use Rattle.std.specs.Prelude.{◌≡◌, length, replicate, pos};
 ghost use Rattle.price.specs.Costs.{costs_of};
 ghost use Rattle.coding.specs.Block.{called};

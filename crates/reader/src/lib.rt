@@ -1,6 +1,8 @@
 // Symbols read: a list is looked through from its front before anything is written, and then the levels that it tells
 // are put at their places. Whether something is wrong with it, and what the block then holds, is the definition's
 // (`runs`).
+#![tactic(auto)]
+
 ghost use Rattle.std.specs.Prelude.{◌≡◌, false, ◌≤◌, ◌<◌, ◌*◌, ◌^◌, length, replicate, pos};
 ghost use Rattle.runs.specs.Packing.{run_bits};
 ghost use Rattle.runs.specs.Runs.{misread, level_of};

@@ -28,6 +28,7 @@ module _ {I : Type 0} (i : I) where
   pub refused_with_the_first : {f : Fault I} (fs : List (Fault I)) → First i f fs
       → verdict fs i ≡ refused (number_of f.refusal) (component_of (f.component i))
   unfolding verdict
+  refused_with_the_first {f = f} [] r = elim r [ ]
   refused_with_the_first (g ∷ fs) (here h) = rw h
   refused_with_the_first (g ∷ fs) (later h r) = rw h (refused_with_the_first fs r)
 

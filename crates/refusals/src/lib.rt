@@ -1,6 +1,8 @@
 // The refusals and the three components, by name: no other refusal and no fourth component can be named. specs/ has the
 // paper's number for each, what comes of a call, and how its refusal comes from the list of its faults: it is the first
 // that holds.
+#![tactic(auto)]
+
 ghost use Rattle.std.specs.Prelude.{◌≡◌, ◌^◌, ◌≤◌};
 ghost use Rattle.refusals.specs.Numbers.{number_of, component_of};
 ghost use Rattle.refusals.specs.Sides.{most_log2};

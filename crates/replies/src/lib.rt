@@ -1,5 +1,7 @@
 // The answer lines of the protocol, written from the start of the room for them. What is written is, byte for byte, the
 // line that specs/Reply.antt defines, for all answers and all samples.
+#![tactic(auto)]
+
 ghost use Rattle.std.specs.Prelude.{◌≡◌, ◌+◌, ◌*◌, ◌≤◌, length, take};
 ghost use Rattle.text.specs.Text.{printed, printed_sample, Put};
 ghost use Rattle.replies.specs.Reply.{spaced, verdict_text, list_if, list_text, reply_text, malformed_text, Written};

@@ -1,5 +1,7 @@
 // Scaling back: levels become coefficients again. The contract speaks of the definition's one product and one shift.
 // The code leaves out what factor and shift have in common, so that each product is one of two numbers of 16 bits.
+#![tactic(auto)]
+
 ghost use Rattle.std.specs.Prelude.{◌≡◌, map, ℕ, ◌+◌, ◌<◌, ◌≤◌, length, nat_abs, pos};
 ghost use Rattle.integers.specs.Sum.{at};
 ghost use Rattle.refusals.specs.Sides.{most_log2};

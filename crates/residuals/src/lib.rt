@@ -1,6 +1,8 @@
 // Levels back to residuals, the viewer's half: levels are scaled back to coefficients, and the inverse transform makes
 // residuals of them. The contracts speak of one product and one shift a level, of the double sum over the block rounded
 // once and clipped, never of stages, and of what is refused and in which order.
+#![tactic(auto)]
+
 ghost use Rattle.std.specs.Prelude.{◌≡◌};
 ghost use Rattle.refusals.specs.Faults.{verdict_outcome};
 ghost use Rattle.decoding.specs.Call.{levels_lent, scale_verdict, scale_buffer};

@@ -1,5 +1,7 @@
 // The rooms that a block is coded in, of 64, 256 or 1,024 places by its side. The block left, its count and its price
 // are the definition's, as `levels` has them.
+#![tactic(auto)]
+
 ghost use Rattle.std.specs.Prelude.{◌≤◌, ◌^◌};
 ghost use Rattle.refusals.specs.Sides.{most_log2};
 ghost use Rattle.levels.specs.Inner.Levels.{Codable, CodedAs};

@@ -1,5 +1,7 @@
 // The two ends of the transform: residuals of 16 bits become numbers of 32 that the stages can add up, and the sums
 // become coefficients of 16 bits, by the one rounding that there is. The contracts say how large a sum may be for that.
+#![tactic(auto)]
+
 ghost use Rattle.std.specs.Prelude.{◌≡◌, ℕ, ◌*◌, ◌^◌, ◌<◌, ◌≤◌, length, nat_abs};
 ghost use Rattle.integers.specs.Sum.{at};
 ghost use Rattle.integers.specs.Floor.{rounded};

@@ -1,6 +1,8 @@
 // The levels of a block as a run list: a symbol for each level that is not 0, in scan order. specs/ has the symbols of
 // a block, how one is packed in a number, what a list has wrong, and the two calls; proofs/ that writing and reading
 // undo each other. There is no function here: `symbols` has the code.
+#![tactic(auto)]
+
 use refusals::Refusal;
 
 // A level that is not 0: the zeros before it, back to the one before or to the block's beginning; its magnitude and

@@ -1,5 +1,7 @@
 // The diagonal scan, and the two kinds of places that it joins: a scan place is looked up, and what comes of it is the
 // block place by the diagonal rule. The numbers are listed as data; one computed test stands between them and the rule.
+#![tactic(auto)]
+
 mod scans;
 
 ghost use Rattle.std.specs.Prelude.{◌≡◌, ◌≤◌, ◌<◌, ◌*◌, ◌^◌, length, get_or, set};

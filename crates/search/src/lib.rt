@@ -1,5 +1,7 @@
 // The search for the cheapest block of all: the two passes of `passes`, and between them the choice of a coded block or
 // the empty one. Its block and its price are the definition's (specs/Cheapest.antt of `price`).
+#![tactic(auto)]
+
 ghost use Rattle.std.specs.Prelude.{◌≡◌, ◌*◌, length};
 ghost use Rattle.price.specs.Cheapest.{cheapest};
 ghost use Rattle.weights.specs.Inner.Choosing.{Choosable, ChosenBy};

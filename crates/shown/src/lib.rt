@@ -1,6 +1,8 @@
 // What the viewer shows of a block, beside what the camera saw: the residuals that are coded, the samples made of those
 // that come back, how far the two pictures lie apart, and how much darker the one shown is. The guess is 700 at every
 // sample: light paper. A block of 64 stands in front of 32 samples of chroma, which are not coded.
+#![tactic(auto)]
+
 ghost use Rattle.std.specs.Prelude.{◌≡◌, ◌≤◌, ◌<◌, max, length};
 ghost use Rattle.picture.specs.Picture.{Sides};
 ghost use Rattle.shown.specs.Shown.{residual_of, viewed_of, apart_of, apart_at, Residuals, Views, block_apart};

@@ -1,6 +1,8 @@
 // The signs of a block, taken off and put back: what is kept of its coefficients for the choice of levels, and the
 // levels in the place of the coefficients. What is kept stands for the block, and what is put back is the definition's
 // (specs/Block.antt of `coding`).
+#![tactic(auto)]
+
 ghost use Rattle.std.specs.Prelude.{◌≡◌, ℕ, ◌≤◌, length, get_or};
 ghost use Rattle.price.specs.Price.{nonzeros};
 ghost use Rattle.coding.specs.Block.{signs};

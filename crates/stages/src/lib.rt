@@ -1,5 +1,7 @@
 // The stages: each line of a list of lines is transformed and goes down its own column of the result, so that the
 // second stage meets the columns of the first as its lines. Nothing is rounded: the result is the sums themselves.
+#![tactic(auto)]
+
 ghost use Rattle.std.specs.Prelude.{◌≡◌, ◌+◌, ◌*◌, ◌^◌, ◌<◌, ◌≤◌, length};
 ghost use Rattle.integers.specs.Sum.{at};
 ghost use Rattle.refusals.specs.Sides.{most_log2};

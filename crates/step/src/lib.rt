@@ -1,5 +1,7 @@
 // One place of the walk: passed where its m is 0, else one offer, m or m - 1, is weighed against 0. The totals are what
 // the walk's definition steps to (specs/Inner/OnePass.antt of `price`).
+#![tactic(auto)]
+
 ghost use Rattle.std.specs.Prelude.{◌≡◌, ◌≤◌, ◌^◌};
 ghost use Rattle.price.specs.Inner.OnePass.{step};
 ghost use Rattle.weights.specs.Inner.Prices.{Modest, rule_by};

@@ -1,4 +1,6 @@
 // One component: its residuals transformed and quantised in place, if it is run.
+#![tactic(auto)]
+
 ghost use Rattle.std.specs.Prelude.{◌≡◌, ◌≤◌};
 ghost use Rattle.price.specs.Costs.{costs_of};
 ghost use Rattle.coding.specs.Call.{quant_outcome};

@@ -1,5 +1,7 @@
 // Transform and quantiser over the three components of a block, which stand in one lent buffer: Y, then U, then V.
 // Nothing is written until every test of every component has passed.
+#![tactic(auto)]
+
 ghost use Rattle.std.specs.Prelude.{◌≡◌};
 ghost use Rattle.price.specs.Costs.{costs_of};
 ghost use Rattle.components.specs.Call.{requested, sub_block_outcome, sub_block_answer, sub_block_buffer};

@@ -1,6 +1,8 @@
 // What crosses to C and Rust: flat numbers made the inputs of a call, and its answer made flat numbers. Which call the
 // numbers ask for, and what it leaves, is defined in specs/; proofs/ has examples of both, computed. `wire` makes the
 // calls, and its contracts and those of the exports are records of these definitions.
+#![tactic(auto)]
+
 ghost use Rattle.std.specs.Prelude.{◌≡◌};
 ghost use Rattle.refusals.specs.Faults.{verdict_outcome};
 ghost use Rattle.runs.specs.Call.{write_outcome};

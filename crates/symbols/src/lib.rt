@@ -1,6 +1,8 @@
 // The levels of a block as a run list, for the entropy coder: the writer, the stretch of the list that it filled, and
 // the reader. The contracts cite the definitions of `runs`: which symbols a block has, which lists are refused, and
 // what is then held by what is lent.
+#![tactic(auto)]
+
 ghost use Rattle.std.specs.Prelude.{◌≡◌};
 ghost use Rattle.refusals.specs.Faults.{verdict_outcome};
 ghost use Rattle.runs.specs.Call.{writing, write_outcome, write_answer, write_list, filled_of};

@@ -1,6 +1,8 @@
 // Numbers and words put into a buffer. Each function writes at a place and answers the place after what it wrote; all
 // else stays as it was, for all numbers and all words. A number printed is read back as itself by `numerals`, and no
 // number has two texts (proofs/RoundTrip).
+#![tactic(auto)]
+
 ghost use Rattle.std.specs.Prelude.{◌≡◌, ◌+◌, ◌≤◌, nat_abs, length};
 ghost use Rattle.text.specs.Text.{printed, printed_sample, Put};
 

@@ -1,5 +1,7 @@
 // Answers requests: for each line of standard input a line of standard output, `malformed` where it is longer than
 // 65,535 bytes. It ends where the input ends, or where it can't read or write, which it says on standard error.
+#![tactic(auto)]
+
 ghost use Rattle.std.specs.Prelude.{◌<◌, length};
 ghost use Rattle.input.specs.Lines.{Within};
 

@@ -1,5 +1,7 @@
 // The forward transform of a block of residuals: both stages, and the one rounding behind them. Its contracts speak of
 // the double sum over the block, never of stages, and of what is refused and in which order.
+#![tactic(auto)]
+
 ghost use Rattle.std.specs.Prelude.{◌≡◌};
 ghost use Rattle.integers.specs.Tests.{some};
 ghost use Rattle.refusals.specs.Faults.{verdict_outcome};

@@ -1,5 +1,7 @@
 // One candidate of a guarded block tried: magnitudes put back to m, the price of what they make, the levels that they
 // stand for, and whether what the viewer makes of these lies within the heights.
+#![tactic(auto)]
+
 ghost use Rattle.std.specs.Prelude.{◌≡◌, map, ℕ, ◌≤◌, length, get_or};
 ghost use Rattle.price.specs.Price.{nonzeros};
 ghost use Rattle.scaling.specs.Inner.Scale.{Sound};

@@ -1,5 +1,7 @@
 // The three components, each in its turn, in a room that holds the residuals of all; and how that room is filled from a
 // call's buffer and written back.
+#![tactic(auto)]
+
 ghost use Rattle.std.specs.Prelude.{◌≡◌, ◌++◌, ◌+◌, ◌/◌, ◌≤◌, length, drop};
 ghost use Rattle.price.specs.Costs.{costs_of};
 ghost use Rattle.components.specs.Call.{sub_block_outcome};

@@ -1,6 +1,8 @@
 // A stage of the inverse transform: every line of a block of 16-bit numbers back to values, each down a column of its
 // own, so that the columns of the first stage are the lines of the second. Lines of 16 and 32 go by halves, in loops of
 // their own, in which the compiler takes several lines at a time.
+#![tactic(auto)]
+
 ghost use Rattle.std.specs.Prelude.{◌≡◌, ℕ, ◌+◌, ◌-◌, ◌*◌, ◌^◌, ◌<◌, ◌≤◌, length, nat_abs};
 ghost use Rattle.integers.specs.Sum.{at};
 ghost use Rattle.refusals.specs.Sides.{most_log2};

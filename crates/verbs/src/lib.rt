@@ -1,4 +1,6 @@
 // The verbs of requests. A verb is read from its word and from no other.
+#![tactic(auto)]
+
 ghost use Rattle.std.specs.Prelude.{◌≡◌};
 ghost use Rattle.verbs.specs.Verbs.{verb_of};
 

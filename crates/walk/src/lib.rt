@@ -1,5 +1,7 @@
 // The walk and its cut: the block is walked along the scan, and cut where that is cheapest. The block left and its
 // price are the definition's (specs/Walk.antt of `price`).
+#![tactic(auto)]
+
 ghost use Rattle.std.specs.Prelude.{◌≡◌, ◌≤◌, ◌*◌, length};
 ghost use Rattle.price.specs.Walk.{written};
 ghost use Rattle.weights.specs.Inner.Places.{Scanned};

@@ -1,6 +1,8 @@
 // The calls over flat numbers, as they cross to C and Rust: whole numbers, f64s, slices and arrays go in. A result is 0
 // or a refusal's number, and what else a call answers is written into an array. Each is the call that `surface` says
 // the numbers ask for.
+#![tactic(auto)]
+
 ghost use Rattle.runs.specs.Call.{writing, reading};
 ghost use Rattle.transform.specs.Call.{called};
 ghost use Rattle.decoding.specs.Call.{levels_lent, coefficients_lent};

@@ -1,5 +1,7 @@
 // Symbols written: the levels of a block that are not 0 are counted by rows, and then their symbols are stored in scan
 // order, up to the last of them. What the list then holds is the definition's (`runs`), over what it held.
+#![tactic(auto)]
+
 ghost use Rattle.std.specs.Prelude.{◌≡◌, ◌≤◌, ◌^◌, length};
 ghost use Rattle.scan.specs.Order.{in_order};
 ghost use Rattle.runs.specs.Runs.{nonzeros, symbol_of};
