@@ -13,7 +13,7 @@ use pgm::{Head, Header, Samples, read_header, take_samples};
 use picture::{Size, area};
 
 // Lambda is in millionths; where no height was given it is one that nothing exceeds, and `guarded` is not set.
-#[derive(Drop)]
+#[derive(Clone, Copy)]
 pub struct Asked {
     pub qp: u32,
     pub millionths: u64,

@@ -7,7 +7,7 @@ use price::Settings;
 use refusals::{Component, Refusal};
 
 // Which block is written: document 01's, or the cheapest of all whose magnitudes are 0, m or m - 1.
-#[derive(Drop)]
+#[derive(Clone, Copy)]
 pub enum Mode {
     Walk,
     Least,

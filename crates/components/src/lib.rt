@@ -9,7 +9,7 @@ use refusals::{Component, Refusal};
 // All inputs of a call but what it is lent, which are its buffer and the cost tables: log2 of luma's side, each
 // component's settings, the run mask, whether the slice is intra, whether the block is intra-coded, and which blocks
 // are written.
-#[derive(Drop)]
+#[derive(Clone, Copy)]
 pub struct Request {
     pub log2_luma: usize,
     pub y: Settings,

@@ -9,7 +9,7 @@ use coefficients::skip::absolute;
 use scaling::scale::{rounded, scale_of};
 
 // Nothing: a level of 0 where the magnitude is 0 already. Other: what the quantiser never does.
-#[derive(Drop)]
+#[derive(Clone, Copy)]
 pub enum Fate {
     Nothing,
     Kept,
@@ -44,7 +44,7 @@ pub fn became(c: i16, level: i16, qp: u32) -> Fate
 }
 
 // How many of each, but for Nothing.
-#[derive(Drop)]
+#[derive(Clone, Copy)]
 pub struct Tally {
     pub kept: u64,
     pub lowered: u64,

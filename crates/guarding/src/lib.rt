@@ -7,7 +7,7 @@ use heights::Heights;
 use refusals::{Component, Refusal};
 
 // Each component's heights.
-#[derive(Drop)]
+#[derive(Clone, Copy)]
 pub struct ThreeHeights {
     pub y: Heights,
     pub u: Heights,
@@ -15,7 +15,7 @@ pub struct ThreeHeights {
 }
 
 // What was coded of a component, and how far its samples are off at most; 0 throughout for one that was not run.
-#[derive(Drop)]
+#[derive(Clone, Copy)]
 pub struct Guarded {
     pub count: u32,
     pub price: u64,

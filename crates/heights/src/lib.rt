@@ -6,14 +6,14 @@
 use refusals::Refusal;
 
 // As found: the largest darkening of a sample, and the largest lightening.
-#[derive(Drop)]
+#[derive(Clone, Copy)]
 pub struct Extremes {
     pub darker: u32,
     pub lighter: u32,
 }
 
 // As allowed: what the host wants no sample to exceed.
-#[derive(Drop)]
+#[derive(Clone, Copy)]
 pub struct Heights {
     pub darker: u32,
     pub lighter: u32,

@@ -11,7 +11,7 @@ use libc::STDIN_FILENO;
 
 // The bytes of the buffer from `from` up to `have` were read and not yet handed out. While a line that is too long is
 // passed over, they belong to it.
-#[derive(Drop)]
+#[derive(Clone, Copy)]
 pub struct Cursor {
     pub from: usize,
     pub have: usize,

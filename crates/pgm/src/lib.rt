@@ -9,7 +9,7 @@ ghost use Rattle.pgm.specs.Header.{raw_form, head_from, head_checked, head_sized
 ghost use Rattle.pgm.specs.Samples.{scaled_of, Outcome};
 
 // How the samples stand: as text, a byte each, or two bytes each with the higher one first.
-#[derive(Drop)]
+#[derive(Clone, Copy)]
 pub enum Form {
     Plain,
     Bytes,

@@ -7,7 +7,7 @@ ghost use Rattle.std.specs.Prelude.{◌≡◌, ◌*◌, ◌≤◌, ◌<◌, min,
 ghost use Rattle.picture.specs.Picture.{Sides, across_of, down_of, row_of, column_of, place_of, inside_of, kept_of};
 ghost use Rattle.picture.specs.Picture.{Taken, Kept, ByRows};
 
-#[derive(Drop)]
+#[derive(Clone, Copy)]
 pub struct Size {
     pub width: usize,
     pub height: usize,

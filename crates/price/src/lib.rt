@@ -20,7 +20,7 @@ pub struct Costs {
 }
 
 // One component's settings.
-#[derive(Drop)]
+#[derive(Clone, Copy)]
 pub struct Settings {
     pub qp: u32,
     pub lambda: f64,

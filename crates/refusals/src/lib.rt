@@ -24,7 +24,7 @@ pub enum Refusal {
     Height,
 }
 
-#[derive(Drop)]
+#[derive(Clone, Copy)]
 pub enum Component {
     Y,
     U,

@@ -9,7 +9,7 @@ use tables::scales::{error_scale, scale};
 
 // q, b, 2^b and its half, and E. typeof.q.E and the rest are front·2^20, so that the error of magnitude 0 is worked out in 32
 // bits; least is the smallest |c| whose m is above 0.
-#[derive(Drop)]
+#[derive(Clone, Copy)]
 pub struct Scale {
     pub q: u32,
     pub shift: u32,

@@ -16,7 +16,7 @@ use crate::scans::{SCANS, Scans};
 #[derive(Drop)]
 pub struct ScanPlace(usize);
 
-#[derive(Drop)]
+#[derive(Clone, Copy)]
 pub struct BlockPlace(usize);
 
 // The listed table: the diagonal rule's numbers.

@@ -18,7 +18,7 @@ use signs::put_signs;
 use weights::prices::Prices;
 
 // What the candidates of a block are tried by: its prices and its scale, log2 of its side, its QP, and its heights.
-#[derive(Drop)]
+#[derive(Clone, Copy)]
 pub struct Terms {
     pub prices: Prices,
     pub scale: Scale,

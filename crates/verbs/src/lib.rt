@@ -6,7 +6,7 @@ ghost use Rattle.verbs.specs.Verbs.{verb_of};
 
 use check::same;
 
-#[derive(Drop)]
+#[derive(Clone, Copy)]
 pub enum Verb {
     Transform,
     Quantise,

@@ -5,7 +5,7 @@ ghost use Rattle.weights.specs.Inner.Prices.{Modest, zero_price, head_price, Pri
 
 // Of two that differ in their last letter the first is after a nonzero level, the second after a 0. zero: a 0; head:
 // the sign and the run of a level; one, two, each: a level of 1, of 2, and what each one more adds.
-#[derive(Drop)]
+#[derive(Clone, Copy)]
 pub struct Prices {
     pub zero: u64,
     pub zeros: u64,
