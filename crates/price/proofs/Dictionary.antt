@@ -13,6 +13,10 @@ before_itself [] = both
 before_itself (a ∷ l) = same refl (before_itself l)
 
 before_onward : (j k l : List ℕ) → Before j k → Before k l → Before j l
+before_onward [] [] (c ∷ l) _ x7 = elim x7 [ ]
+before_onward [] (b ∷ k) l x5 _ = elim x5 [ ]
+before_onward (a ∷ j) [] l x5 _ = elim x5 [ ]
+before_onward (a ∷ j) (b ∷ k) [] _ x9 = elim x9 [ ]
 before_onward [] [] [] both both = both
 before_onward (a ∷ j) (b ∷ k) (c ∷ l) (less h) (less g) = let q : a < c = omega arith in less q
 before_onward (a ∷ j) (b ∷ k) (c ∷ l) (less h) (same e g) = let q : a < c = omega arith in less q
@@ -20,6 +24,8 @@ before_onward (a ∷ j) (b ∷ k) (c ∷ l) (same e h) (less g) = let q : a < c 
 before_onward (a ∷ j) (b ∷ k) (c ∷ l) (same e h) (same q g) = same (e ∙ q) (before_onward j k l h g)
 
 before_no_two : (k l : List ℕ) → Before k l → Before l k → k ≡ l
+before_no_two [] (b ∷ l) x4 _ = elim x4 [ ]
+before_no_two (a ∷ k) [] x5 _ = elim x5 [ ]
 before_no_two [] [] both both = refl
 before_no_two (a ∷ k) (b ∷ l) (less h) (less g) = absurd (omega arith)
 before_no_two (a ∷ k) (b ∷ l) (less h) (same e g) = absurd (omega arith)

@@ -100,6 +100,8 @@ rounded_zero n c p z =
     ∙ zero-mul (2 ^ low binary64) ∙ sym (zero-mul c)))
   where
     of_value : (x : Float) → HasValue x true n c → Upto 268435456 x
+    of_value nan v = elim v [ ]
+    of_value (inf _) v = elim v [ ]
     of_value (fin true m e) v =
         no_factor m (up e) (up_pos e) (no_factor (m * up e) c p (v.1 ∙ ap (λ (k : ℕ). k * down e) z
         ∙ zero-mul (down e)))
@@ -107,6 +109,8 @@ rounded_zero n c p z =
 
 product_upto : (d : Float) → Upto 8192 d → Upto 268435456 (mul binary64 d scale)
 unfolding mul
+product_upto nan h = elim h [ ]
+product_upto (inf _) h = elim h [ ]
 product_upto (fin true m e) h =
     rounded_zero (m * up e * 32768) (down e * 1) (mul-pos (down_pos e) (lit< tt))
     (ap (λ (k : ℕ). k * up e * 32768) h ∙ ap (λ (k : ℕ). k * 32768) (zero-mul (up e)) ∙ zero-mul 32768)
@@ -137,6 +141,8 @@ summed n c p l u =
 
 sum_summed : (p : Float) → Upto 268435456 p → Summed (add binary64 p half)
 unfolding add sum
+sum_summed nan h = elim h [ ]
+sum_summed (inf _) h = elim h [ ]
 sum_summed (fin false m e) h =
     summed (m * up e * 2 + 1 * 1 * down e) (down e * 2) (mul-pos (down_pos e) (lit< tt)) (omega arith) (omega arith)
 sum_summed (fin true m e) h =
@@ -191,6 +197,10 @@ in_range (fin false m e) s = (
 whole_if_not_above : (x y : Float) (k : ℕ) → T (positive x) → HasValue y false k 1 → T (not (lt x y))
     → k ≤ num x / den x
 unfolding lt
+whole_if_not_above nan y k p v t = elim p [ ]
+whole_if_not_above (inf _) y k p v t = elim p [ ]
+whole_if_not_above (fin false m e) nan k p v t = elim v [ ]
+whole_if_not_above (fin false m e) (inf _) k p v t = elim v [ ]
 whole_if_not_above (fin true m e) y k p v t = absurd p
 whole_if_not_above (fin false m e) (fin true n d) k p v t = absurd (true≢false v.0)
 whole_if_not_above (fin false m e) (fin false n d) k p v t =
@@ -203,6 +213,10 @@ whole_if_not_above (fin false m e) (fin false n d) k p v t =
 not_above_if_whole : (x y : Float) (k : ℕ) → T (positive x) → HasValue y false k 1 → k ≤ num x / den x
     → T (not (lt x y))
 unfolding lt
+not_above_if_whole nan y k p v h = elim p [ ]
+not_above_if_whole (inf _) y k p v h = elim p [ ]
+not_above_if_whole (fin false m e) nan k p v h = elim v [ ]
+not_above_if_whole (fin false m e) (inf _) k p v h = elim v [ ]
 not_above_if_whole (fin true m e) y k p v h = absurd p
 not_above_if_whole (fin false m e) (fin true n d) k p v h = absurd (true≢false v.0)
 not_above_if_whole (fin false m e) (fin false n d) k p v h =

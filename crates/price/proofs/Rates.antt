@@ -7,7 +7,7 @@ use Rattle.integers.specs.Tests.{some, listed}
 use Rattle.integers.proofs.Over.{tests, some_over, over_part, over_end}
 use Rattle.integers.proofs.Tests.{neither}
 use Rattle.price.specs.declared.Costs.{Costs}
-use Rattle.price.specs.Costs.{four_at, eight_at, costs_of, dear, cost_refused, InRange, Rows, entry, run_row, rate}
+use Rattle.price.specs.Costs.{four_at, eight_at, costs_of, dear, cost_refused, InRange, Rows, run_row, rate}
 
 none_dear : (table : List ℕ) → some dear table ≡ false → (k : ℕ) → get_or table k 0 ≤ 1048576
 unfolding some

@@ -1,6 +1,6 @@
 -- `price::all_bits` meets its contract. The loop's invariant: no entry before place i is above the bits of these
 -- entries. Bits put together are at least either number, as what both have is at most either.
-use Rattle.std.proofs.Common.{◌≡◌, ℕ, ◌-◌, ◌<◌, ◌≤◌, get_or, subst, ⊎_elim, arith, rules}
+use Rattle.std.proofs.Common.{◌≡◌, ℕ, ◌<◌, ◌≤◌, get_or, subst, ⊎_elim, arith, rules}
 use lib.Bits.{bit_or, or_add_and, and_le_l, and_le_r}
 use Rattle.integers.proofs.Order.{below_or_not}
 use Rattle.price.proofs.all_bits.Goals as goal

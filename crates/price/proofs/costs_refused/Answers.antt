@@ -6,22 +6,14 @@ use Rattle.price.specs.Costs.{dear}
 use Rattle.price.proofs.Rates.{dear_in_all}
 use Rattle.price.proofs.costs_refused.Goals as goal
 
--- the call's inputs, from behind the bits
-abbrev start : goal.After-all-bits → goal.Start
-start c = c
-
 pub returns-then-all_bits-le1048576 : goal.returns-then-all_bits-le1048576
 returns-then-all_bits-le1048576 c =
     let bits = c.all_bits in
-    let s = start c in
-    let ok = s.good in
-    let numbers = s.args.costs.now in
+    let numbers = c.args.costs.now in
     sym (passed_by_none 0 dear numbers
-    (λ k h. le-ltb 1048576 (get_or numbers k 0) (omega (arith, bits.ensures k h, c.if-all_bits-le1048576.true))))
+    (λ k h. le-ltb 1048576 (get_or numbers k 0) (omega (arith, c.all_bits.ensures k h, c.if-all_bits-le1048576.true))))
     ∙ dear_in_all numbers (search rules)
 
 pub returns : goal.returns
 returns c =
-    let s = start c in
-    let ok = s.good in
-    c.some_dear.ensures ∙ dear_in_all s.args.costs.now (search rules)
+    c.some_dear.ensures ∙ dear_in_all c.args.costs.now (search rules)

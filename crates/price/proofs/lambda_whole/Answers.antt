@@ -3,8 +3,14 @@
 use Rattle.std.proofs.Common.{◌≡◌, ℕ, sym, ap, ◌∙◌, subst}
 use lib.Ieee.{to_unsigned}
 use Rattle.price.specs.Lambda.{lambda_sum, lambda_of, Greatest}
-use Rattle.price.proofs.Lambda.{lambda_greatest}
+use Rattle.price.proofs.Lambda.{sum_in_range, lambda_greatest}
 use Rattle.price.proofs.lambda_whole.Goals as goal
+
+pub truncating_f64_to_u64-requires-clause-lower_bound : goal.truncating_f64_to_u64-requires-clause-lower_bound
+truncating_f64_to_u64-requires-clause-lower_bound c = rw c.lambda_sum.ensures (sum_in_range c.args.d c.requires).0
+
+pub truncating_f64_to_u64-requires-clause-upper_bound : goal.truncating_f64_to_u64-requires-clause-upper_bound
+truncating_f64_to_u64-requires-clause-upper_bound c = rw c.lambda_sum.ensures (sum_in_range c.args.d c.requires).1
 
 pub returns : goal.returns
 unfolding lambda_of

@@ -2,7 +2,7 @@
 -- so two least prices a place are enough: of what comes from there on after a 0, and after a nonzero level. They are
 -- worked out backwards; then the block is read off forwards, 0 before m - 1 before m, and ending before going on. That
 -- it is the block of specs/Cheapest.antt is in proofs/Search.antt.
-use Rattle.std.specs.Prelude.{ℕ, zero, suc, ◌+◌, ◌-◌, Bool, true, false, cond, List, [], ◌∷◌, nat_lt}
+use Rattle.std.specs.Prelude.{ℕ, zero, suc, ◌+◌, Bool, true, false, cond, List, [], ◌∷◌, nat_lt}
 use Rattle.price.specs.Rule.{Rule, is_zero, cost}
 use Rattle.price.specs.Price.{uncoded}
 use Rattle.price.specs.Walk.{cheaper}
