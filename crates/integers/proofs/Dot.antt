@@ -1,7 +1,7 @@
 -- How large a sum can be: by the magnitudes of its terms, and a sum of products by its weights and the largest value.
 -- Assumes nothing.
 use mathlib.Core.Path.{◌≡◌, subst, sym}
-use Prim.Native.Nat.{ℕ, zero, suc, ◌+◌, ◌*◌, ◌<◌, ◌≤◌}
+use Prim.Native.Nat.{ℕ, zero, suc, ◌*◌, ◌<◌, ◌≤◌}
 use native.Mathlib.Nat.{mul-le-mul_left, add-mul, le_of_suc-le-suc, eq-or-lt_of_le}
 use native.Mathlib.Omega.{arith}
 use mathlib.Core.Logic.{⊎_elim}

@@ -1,13 +1,12 @@
 -- A number cut by a unit m: into its floor and a rest below m, which make it up again; a floor of such a sum in two
 -- steps, the rests first.
 -- Assumes nothing.
-use mathlib.Core.Path.{◌≡◌, refl, sym, ◌∙◌, ap}
-use Prim.Native.Nat.{ℕ, suc, ◌+◌, ◌*◌, ◌/◌, ◌<◌, ◌≤◌}
-use native.Mathlib.Nat.{add-mul, mul-add, mul_comm, mul_left_comm, mul-le-mul_left, mul-suc, mul-zero}
+use mathlib.Core.Path.{◌≡◌, sym, ◌∙◌, ap}
+use Prim.Native.Nat.{ℕ, ◌+◌, ◌*◌, ◌/◌, ◌<◌}
+use native.Mathlib.Nat.{add-mul, mul-add, mul_comm, mul_left_comm, mul-le-mul_left, mul-suc}
 use native.Mathlib.Omega.{arith}
-use lib.Dec.{lit<, ltb, ltb→lt, nltb→le}
-use lib.IntN.{ℤ, pos, negsuc, nat_abs, neg_ℤ, ◌+ℤ◌, ◌-ℤ◌, ◌*ℤ◌, *ℤ_comm}
-use lib.Signed.{lt_z, shr_z}
+use lib.IntN.{ℤ, pos, nat_abs, neg_ℤ, ◌+ℤ◌, ◌-ℤ◌, ◌*ℤ◌, *ℤ_comm}
+use lib.Signed.{shr_z}
 use Rattle.integers.proofs.Parts.{above, below, +-parts, neg_above, neg_below, eq_of_parts}
 use Rattle.integers.proofs.Parts.{times_above, times_below}
 use Rattle.integers.proofs.Grid.{row_of}

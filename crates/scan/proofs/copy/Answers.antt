@@ -1,8 +1,7 @@
 -- `scan::copy` meets its contract: entry by entry.
 use mathlib.Core.Path.{refl, sym, ◌∙◌}
-use Prim.Native.Nat.{◌-◌}
 use native.Mathlib.Omega.{arith}
-use lib.ListN.{length, length-set, get_or}
+use lib.ListN.{length-set, get_or}
 use Rattle.integers.proofs.Fill.{filled_more, filled_all}
 use Rattle.scan.proofs.copy.Goals as goal
 

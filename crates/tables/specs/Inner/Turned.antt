@@ -1,5 +1,4 @@
 -- A family of matrices with rows and columns exchanged: the inverse transform multiplies by it.
-use Rattle.std.specs.Prelude.{ℕ, ℤ}
 use Rattle.tables.specs.Matrix.{Matrices}
 
 abbrev pub turned : Matrices → Matrices
