@@ -7,7 +7,7 @@ ghost use Rattle.scaling.specs.Inner.Scale.{Sound, ScaleOf};
 
 use tables::scales::{error_scale, scale};
 
-// q, b, 2^b and its half, and E. typeof.q.E and the rest are front·2^20, so that the error of magnitude 0 is worked out in 32
+// q, b, 2^b and its half, and E. q·E and the rest are front·2^20, so that the error of magnitude 0 is worked out in 32
 // bits; least is the smallest |c| whose m is above 0.
 #[derive(Clone, Copy)]
 pub struct Scale {
