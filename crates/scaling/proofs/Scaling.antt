@@ -2,18 +2,12 @@
 -- between 14 and 28, and q·E leaves less than q of front·2^20. Code works in 32 and 64 bits by these bounds.
 -- Assumes nothing.
 use mathlib.Core.Path.{◌≡◌, refl, sym, ap, ◌∙◌}
-use mathlib.Core.Bool.{Bool, ◌&&◌}
 use mathlib.Core.List.{List}
 use Prim.Native.Nat.{ℕ, zero, suc, ◌+◌, ◌-◌, ◌*◌, ◌/◌, ◌%◌, ◌^◌, ◌≤◌, ◌<◌}
-use native.Mathlib.Nat.{div-eq_of_lt, mod-lt, mul-div-le, lt-mul-div-succ, mul-add, mul-le-mul, pow-suc}
+use native.Mathlib.Nat.{div-eq_of_lt, mul-div-le, lt-mul-div-succ, mul-add, mul-le-mul, pow-suc}
 use native.Mathlib.Nat.{mul-le-mul_right, mul-one, div-le_of_le-mul}
 use native.Mathlib.Omega.{arith}
-use lib.Dec.{leb, leb→le, lit<}
 use lib.Pow.{pow-add, pow_mono, pow-lt, pow_pos}
-use lib.ListN.{get_or}
-use mir.Facts.{and_yes}
-use Rattle.integers.specs.Tests.{all}
-use Rattle.integers.proofs.Tests.{all_at}
 use Rattle.tables.specs.Scales.{forward, scale_of, error_scale}
 use Rattle.tables.proofs.Range.{scale_range}
 use Rattle.refusals.specs.Sides.{most_log2}
