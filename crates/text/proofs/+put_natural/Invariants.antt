@@ -1,0 +1,6 @@
+-- `text::put_natural` meets its contract: it calls itself with a tenth of the number, and puts the last digit
+-- behind those of the tenth.
+use Rattle.text.proofs.+put_natural.Given as goal
+
+abbrev pub decreases-put_natural : goal.decreases-put_natural
+decreases-put_natural l = l.value

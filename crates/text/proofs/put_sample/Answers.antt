@@ -1,0 +1,19 @@
+-- `text::put_sample` meets its contract: a `-` if the sample is negative, and its magnitude.
+use native.Mathlib.Omega.{arith}
+use lib.ListN.{length-set}
+use Rattle.text.proofs.Printing.{put_minus, put_plain}
+use Rattle.text.proofs.put_sample.Goals as goal
+
+pub put_natural-requires : goal.put_natural-requires
+put_natural-requires c = rw length-set (omega arith)
+
+pub returns-then-value-lt0 : goal.returns-then-value-lt0
+returns-then-value-lt0 c =
+    let m = c.absolute-size.ensures in
+    put_minus _ c.args.at _ _ _ m.1 c.args.value c.ranges.value m.0 c.if-value-lt0.true
+    (omega (arith, c.requires)) c.put_natural.ensures
+
+pub returns : goal.returns
+returns c =
+    let m = c.absolute-size.ensures in
+    put_plain _ _ _ _ _ m.1 c.args.value c.ranges.value m.0 c.if-value-lt0.false c.put_natural-2.ensures
