@@ -18,7 +18,7 @@ use lib.IntN.{ℤ, pos, nat_abs}
 use Rattle.integers.specs.Sum.{at}
 use Rattle.integers.specs.Tests.{some}
 use Rattle.integers.proofs.Lists.{map_at, none_passes, passed_by_none}
-use Rattle.scan.specs.Scan.{scan, scan_at}
+use Rattle.scan.specs.Scan.{scan_at}
 use Rattle.scan.proofs.OneToOne.{scan_length}
 use Rattle.scan.specs.Order.{laid}
 use Rattle.scan.proofs.Laid.{laid_on_scan, surplus_kept}
