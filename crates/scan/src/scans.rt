@@ -1,5 +1,5 @@
 // The scan of the squares of sides 2, 4, 8, 16 and 32: one table of 1,364 numbers, a part for each side. Nothing but
-// data: `rt fmt` is not run on this file, since it would put each number on a line of its own.
+// data.
 #[derive(Drop)]
 pub struct Scans {
     pub two: [u16; 4],

@@ -1,5 +1,4 @@
-// T_2, T_4, T_8, T_16 and T_32, a line for each row. Nothing but data: `rt fmt` is not run on this file, since it would
-// put each number on a line of its own.
+// T_2, T_4, T_8, T_16 and T_32, a line for each row. Nothing but data.
 pub const MATRICES: [i8; 1364] = [
     // T_2
     64, 64, 64, -64,
