@@ -1,7 +1,7 @@
 -- `weights::offers::make_offer` meets its contract: m and m - 1 are near L, and the cheaper of the two is the offer.
 use mathlib.Core.Path.{refl, sym, subst}
 use mathlib.Core.Logic.{inl, inr}
-use Prim.Native.Nat.{ℕ, ◌≤◌, ◌-◌}
+use Prim.Native.Nat.{ℕ, ◌≤◌}
 use native.Mathlib.Nat.{le_of_eq}
 use native.Mathlib.Omega.{arith}
 use Rattle.scaling.proofs.Scaling.{rounding}
