@@ -1,11 +1,10 @@
 -- The head of a PGM: P2 or P5, the width, the height and the maxval, and where the samples begin. What it may be wrong
 -- in is asked in this order: the letter and its digit, the width, the height, the largest side of 256, the maxval, and
 -- in P5 the blank behind it.
-use Rattle.std.specs.Prelude.{Bool, true, false, not, cond, List, ℕ, ltb, eqb, length, get_or}
+use Rattle.std.specs.Prelude.{Bool, true, false, cond, List, ℕ, ltb, eqb, length, get_or}
 use Rattle.pgm.specs.declared.Form.{Form}
 use Rattle.pgm.specs.declared.Form.TheVariants.{Plain, Bytes, Pairs}
 use Rattle.pgm.specs.declared.Number.{Number}
-use Rattle.pgm.specs.declared.Header.{Header}
 use Rattle.pgm.specs.declared.Head.{Head}
 use Rattle.pgm.specs.declared.Head.TheVariants.{Is, NoPgm, Other, NoWidth, NoHeight, NoMost, TooLarge, NoSamples}
 use Rattle.pgm.specs.Gap.{is_blank, in_gap}

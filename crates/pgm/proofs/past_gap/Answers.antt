@@ -1,8 +1,7 @@
 -- `pgm::past_gap` meets its contract: what was passed and the gap that is left make the whole gap.
 use mathlib.Core.Path.{refl, sym, ◌∙◌}
-use Prim.Native.Nat.{◌-◌}
 use native.Mathlib.Omega.{arith}
-use Rattle.pgm.specs.Gap.{gap, past_gap}
+use Rattle.pgm.specs.Gap.{past_gap}
 use Rattle.pgm.proofs.Scan.{gap_stops, gap_next, gap_ends}
 use Rattle.pgm.proofs.past_gap.Goals as goal
 

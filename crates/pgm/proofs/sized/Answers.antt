@@ -6,7 +6,5 @@ use Rattle.pgm.proofs.sized.Goals as goal
 pub returns : goal.returns
 unfolding head_sized
 returns c =
-    let most = c in
-    let height = most in
     c.checked.ensures
-    ∙ rw (most.next_number-most.ensures, height.next_number-height.ensures, height.next_number-width.ensures) refl
+    ∙ rw (c.next_number-most.ensures, c.next_number-height.ensures, c.next_number-width.ensures) refl

@@ -1,10 +1,10 @@
 -- `pgm::take_samples` meets its contract: the first i samples are good and stored.
 use mathlib.Core.Path.{◌≡◌, refl, sym, ap, subst, ◌∙◌}
 use mathlib.Core.List.{List}
-use Prim.Native.Nat.{ℕ, ◌+◌, ◌≤◌, ◌-◌}
+use Prim.Native.Nat.{ℕ, ◌+◌, ◌≤◌}
 use native.Mathlib.Numerals.{add-one}
 use borrow.Author.Count.{below_none, below_more}
-use lib.ListN.{length, length-set}
+use lib.ListN.{length-set}
 use Rattle.integers.proofs.Fill.{filled_more}
 use Rattle.pgm.specs.declared.Form.{Form}
 use Rattle.pgm.specs.declared.Number.{Number}
