@@ -5,68 +5,69 @@ use Prim.Native.Nat.{ℕ, ◌+◌, ◌-◌, ◌*◌, ◌/◌, ◌%◌, ◌^◌, 
 use native.Mathlib.Nat.{mod-eq_of_lt, one-mul}
 use native.Mathlib.Omega.{arith}
 use lib.IntN.{pos}
-use Rattle.tables.specs.Scales.{back}
+use Rattle.refusals.specs.Sides.{most_log2}
+use Rattle.tables.specs.Scales.{back, scale_of}
 use Rattle.tables.proofs.Range.{back_scale_range}
 use Rattle.rescale.specs.Inner.Step.{stepped}
 use Rattle.rescale.proofs.Steps.{nothing_dropped, some_dropped, factor_small, half_small}
 use Rattle.rescale.proofs.rescale.Goals as goal
 
--- by how much QP/6 is above the shift, and by how much log2 of the side is not below QP/6
-abbrev more : goal.Start → ℕ
-more a = a.args.qp / 6 - 1 - a.args.log2-side
-
-abbrev less : goal.Start → ℕ
-less a = a.args.log2-side - a.args.qp / 6
-
 -- the scale, and the numbers shifted left, of which no bit is lost
-scale_small : (c : goal.After-back-scale) → c.back_scale-s.result ≤ 72
-scale_small c = omega (arith, c.back_scale-s.ensures, (back_scale_range c.args.qp).1)
+scale_small : (s qp : ℕ) → s ≡ scale_of back qp → s ≤ 72
+scale_small s qp e = omega (arith, (back_scale_range qp).1)
 
-times_small : (c : goal.After-back-scale) → c.back_scale-s.result * 2 ^ more c ≤ 18432
-times_small c =
-    let a = c in
-    factor_small c.back_scale-s.result a.args.log2-side a.args.qp (scale_small c) a.requires.0 a.requires.2
+times_small : (s l qp : ℕ) → s ≡ scale_of back qp → 1 ≤ l → qp ≤ 63 → s * 2 ^ (qp / 6 - 1 - l) ≤ 18432
+times_small s l qp e h q = factor_small s l qp (scale_small s qp e) h q
 
-times_is : (c : goal.After-back-scale)
-    → (c.back_scale-s.result * 2 ^ more c) % 2 ^ 32 ≡ c.back_scale-s.result * 2 ^ more c
-times_is c = mod-eq_of_lt (omega (arith, times_small c))
+times_is : (s l qp : ℕ) → s ≡ scale_of back qp → 1 ≤ l → qp ≤ 63
+    → (s * 2 ^ (qp / 6 - 1 - l)) % 2 ^ 32 ≡ s * 2 ^ (qp / 6 - 1 - l)
+times_is s l qp e h q = mod-eq_of_lt (omega (arith, times_small s l qp e h q))
 
-half_is : (a : goal.Start) → (1 * 2 ^ less a) % 2 ^ 32 ≡ 2 ^ less a
-half_is a =
-    let h = half_small a.args.log2-side (a.args.qp / 6) a.requires.1 in
-    mod-eq_of_lt (omega (arith, h, one-mul (2 ^ less a))) ∙ one-mul (2 ^ less a)
+half_is : (l p : ℕ) → l ≤ most_log2 → (1 * 2 ^ (l - p)) % 2 ^ 32 ≡ 2 ^ (l - p)
+half_is l p k =
+    let h = half_small l p k in
+    mod-eq_of_lt (omega (arith, h, one-mul (2 ^ (l - p)))) ∙ one-mul (2 ^ (l - p))
 
 pub whole-requires : goal.whole-requires
 whole-requires c =
-    let s = c in (omega (arith, times_is s, times_small s), omega arith, omega arith)
+    let s = c.back_scale-s.result in
+    let l = c.args.log2_side in
+    let qp = c.args.qp in
+    let e = c.back_scale-s.ensures in (
+      omega (arith, times_is s l qp e c.requires.0 c.requires.2, times_small s l qp e c.requires.0 c.requires.2),
+      omega arith,
+      omega arith,
+    )
 
 pub whole-requires-else-l-p : goal.whole-requires-else-l-p
 whole-requires-else-l-p c =
-    let a = c in (
-      omega (arith, scale_small c),
-      omega (arith, half_is a, half_small a.args.log2-side (a.args.qp / 6) a.requires.1),
-      omega (arith, a.requires.1),
+    let l = c.args.log2_side in
+    let p = c.args.qp / 6 in (
+      omega (arith, scale_small c.back_scale-s.result c.args.qp c.back_scale-s.ensures),
+      omega (arith, half_is l p c.requires.1, half_small l p c.requires.1),
+      omega (arith, c.requires.1),
     )
 
 pub returns-then-l-p : goal.returns-then-l-p
 returns-then-l-p c =
-    let t = c in
-    let s = t in
-    let a = s.args in
-    let xs = a.block-1.now in
+    let s = c.back_scale-s.result in
+    let l = c.args.log2_side in
+    let qp = c.args.qp in
+    let e = c.back_scale-s.ensures in
+    let xs = c.args.block.now in
     c.whole.ensures
-    ∙ ap (λ (m : ℕ). map (stepped (pos m) 0 0) xs) (times_is s)
-    ∙ ap (λ (m : ℕ). map (stepped (pos (m * 2 ^ more s)) 0 0) xs) s.back_scale-s.ensures
-    ∙ map_congr_left {l = xs} (λ z m. nothing_dropped back a.log2-side a.qp z t.if-l-p.true)
+    ∙ ap (λ (m : ℕ). map (stepped (pos m) 0 0) xs) (times_is s l qp e c.requires.0 c.requires.2)
+    ∙ ap (λ (m : ℕ). map (stepped (pos (m * 2 ^ (qp / 6 - 1 - l))) 0 0) xs) e
+    ∙ map_congr_left {l = xs} (λ z m. nothing_dropped back l qp z c.if-l-p.true)
 
 pub returns-else-l-p : goal.returns-else-l-p
 returns-else-l-p c =
-    let t = c in
-    let s = t in
-    let a = s.args in
-    let xs = a.block-1.now in
-    let d = 1 + a.log2-side - a.qp / 6 in
+    let s = c.back_scale-s.result in
+    let l = c.args.log2_side in
+    let qp = c.args.qp in
+    let xs = c.args.block.now in
+    let d = 1 + l - qp / 6 in
     c.whole-else-l-p.ensures
-    ∙ ap (λ (m : ℕ). map (stepped (pos s.back_scale-s.result) m d) xs) (half_is s)
-    ∙ ap (λ (m : ℕ). map (stepped (pos m) (2 ^ less s) d) xs) s.back_scale-s.ensures
-    ∙ map_congr_left {l = xs} (λ z m. some_dropped back a.log2-side a.qp z t.if-l-p.false)
+    ∙ ap (λ (m : ℕ). map (stepped (pos s) m d) xs) (half_is l (qp / 6) c.requires.1)
+    ∙ ap (λ (m : ℕ). map (stepped (pos m) (2 ^ (l - qp / 6)) d) xs) c.back_scale-s.ensures
+    ∙ map_congr_left {l = xs} (λ z m. some_dropped back l qp z c.if-l-p.false)

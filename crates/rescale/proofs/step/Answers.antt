@@ -1,6 +1,6 @@
 -- `rescale::step` meets its contract: product and sum stay within 32 bits, and the machine reads them as they are.
 use mathlib.Core.Path.{◌≡◌, ap, ◌∙◌}
-use Prim.Native.Nat.{◌*◌, ◌^◌, ◌≤◌}
+use Prim.Native.Nat.{ℕ, ◌*◌, ◌^◌, ◌≤◌}
 use native.Mathlib.Nat.{mul-le-mul}
 use native.Mathlib.Omega.{arith}
 use lib.IntN.{ℤ, pos, nat_abs, ◌+ℤ◌, ◌*ℤ◌}
@@ -10,68 +10,37 @@ use mir.Val.{SFits, to_z, of_z}
 use mir.Facts.{to_z-of_z, to_z_pos, sfits_widen}
 use Rattle.integers.specs.Clip.{clipped}
 use Rattle.integers.proofs.Clip.{clipped_fits}
-use Rattle.integers.proofs.Fit.{fits, magnitude_of, cast_fits, shift_fits}
+use Rattle.integers.proofs.Fit.{fits, magnitude_of, shift_fits}
 use Rattle.integers.proofs.Magnitude.{magnitude-+, magnitude-*}
 use Rattle.rescale.specs.Inner.Step.{stepped}
 use Rattle.rescale.proofs.step.Goals as goal
 
-abbrev product : goal.Start → ℤ
-product c = c.args.level *ℤ c.args.times
+module _ (level times : ℤ) (half : ℕ) (read : SFits w16 level) (bound : nat_abs times ≤ 18432) where
+  small : nat_abs (level *ℤ times) ≤ 32768 * 18432
+  small = omega (arith, magnitude-* level times, mul-le-mul (magnitude_of level read) bound)
 
-abbrev whole : goal.Start → ℤ
-whole c = product c +ℤ pos c.args.half
+  product_fits : SFits w32 (level *ℤ times)
+  product_fits = fits (level *ℤ times) (omega (arith, small))
 
-small : (c : goal.Start) → nat_abs (product c) ≤ 32768 * 18432
-small c =
-    omega (
-      arith,
-      magnitude-* c.args.level c.args.times,
-      mul-le-mul (magnitude_of c.args.level c.ranges.level) c.requires.0,
-    )
+  whole_fits : half ≤ 32 → SFits w32 (level *ℤ times +ℤ pos half)
+  whole_fits h = fits (level *ℤ times +ℤ pos half) (omega (arith, small, magnitude-+ (level *ℤ times) (pos half)))
 
-product_fits : (c : goal.Start) → SFits w32 (product c)
-product_fits c = fits (product c) (omega (arith, small c))
-
-whole_fits : (c : goal.Start) → SFits w32 (whole c)
-whole_fits c = fits (whole c) (omega (arith, small c, c.requires.1, magnitude-+ (product c) (pos c.args.half)))
-
-half_is : (c : goal.Start) → to_z w32 c.args.half ≡ pos c.args.half
-half_is c = to_z_pos w32 (omega (arith, c.requires.1))
-
-pub overflow_cast-z : goal.overflow_cast-z
-overflow_cast-z c = cast_fits w16 w32 c.args.level c.ranges.level (sfits_widen tt c.ranges.level)
-
-pub overflow_cast-z-2 : goal.overflow_cast-z-2
-overflow_cast-z-2 c = cast_fits w16 w32 c.args.times c.ranges.times (sfits_widen tt c.ranges.times)
-
-pub overflow_mul-z : goal.overflow_mul-z
-overflow_mul-z c =
-    let l = c.ranges.level in
-    let t = c.ranges.times in
-    let l32 : SFits w32 c.args.level = sfits_widen tt l in
-    let t32 : SFits w32 c.args.times = sfits_widen tt t in
-    simp to_z-of_z (product_fits c)
-
-pub overflow_add-z : goal.overflow_add-z
-overflow_add-z c =
-    let l = c.ranges.level in
-    let t = c.ranges.times in
-    let l32 : SFits w32 c.args.level = sfits_widen tt l in
-    let t32 : SFits w32 c.args.times = sfits_widen tt t in
-    let p = product_fits c in
-    simp (to_z-of_z, half_is c) (whole_fits c)
+half_is : (half : ℕ) → half ≤ 32 → to_z w32 half ≡ pos half
+half_is half h = to_z_pos w32 (omega arith)
 
 pub returns : goal.returns
 unfolding stepped
 returns c =
-    let s = c in
-    let l = s.ranges.level in
-    let t = s.ranges.times in
-    let l32 : SFits w32 s.args.level = sfits_widen tt l in
-    let t32 : SFits w32 s.args.times = sfits_widen tt t in
-    let p = product_fits s in
-    let w = whole_fits s in
-    let z = shr_z (whole s) (2 ^ s.args.down) in
-    let f : SFits w32 z = shift_fits w32 (whole s) (2 ^ s.args.down) w in
-    let e : c.clip.result ≡ clipped z = simp (to_z-of_z, half_is s) at c.clip.ensures in
+    let level = c.args.level in
+    let times = c.args.times in
+    let half = c.args.half in
+    let l = c.ranges.level in
+    let t = c.ranges.times in
+    let l32 : SFits w32 level = sfits_widen tt l in
+    let t32 : SFits w32 times = sfits_widen tt t in
+    let p = product_fits level times half l c.requires.0 in
+    let w = whole_fits level times half l c.requires.0 c.requires.1 in
+    let z = shr_z (level *ℤ times +ℤ pos half) (2 ^ c.args.down) in
+    let f : SFits w32 z = shift_fits w32 (level *ℤ times +ℤ pos half) (2 ^ c.args.down) w in
+    let e : c.clip.result ≡ clipped z = simp (to_z-of_z, half_is half c.requires.1) at c.clip.ensures in
     ap (λ (y : ℤ). to_z w16 (of_z w16 y)) e ∙ to_z-of_z (clipped_fits z)
