@@ -1,4 +1,3 @@
-mod Arriving
 mod Handing
 mod Moved
 mod Parts

@@ -1,8 +1,9 @@
 -- Lines of the input, as they stand in the buffer that it is read into: what the contracts of `input` cite. A newline
 -- is the byte 10; every other byte is an ordinary one. No byte goes but in a line that is handed out, as its newline,
 -- or in a line that is longer than the buffer can hold, which is told.
-use Rattle.std.specs.Prelude.{ℕ, ◌+◌, ◌-◌, ◌≤◌, ◌<◌, ◌≡◌, Bool, true, false, cond, List, [], ◌∷◌, ◌++◌, ◌⊎◌, eqb, ℤ, pos, length, take, drop, get_or}
-use Rattle.std.specs.Int.Signed.{lt_z}
+use Rattle.std.specs.Prelude.{ℕ, ◌+◌, ◌-◌, ◌≤◌, ◌<◌, ◌≡◌, true, false, cond, List, [], ◌∷◌, ◌++◌, ◌⊎◌, eqb, Option, Result, Ok, Err, length, take, drop, get_or}
+use Rattle.std.specs.Io.KnownBytes.{Keeps, Consumes, IsAtEnd}
+use Rattle.std.specs.declared.io.Error.{Error}
 use Rattle.input.specs.declared.Cursor.{Cursor}
 use Rattle.input.specs.declared.Line.{Line}
 use Rattle.input.specs.declared.Line.TheVariants.{At, TooLong, More}
@@ -76,9 +77,10 @@ Handed before c after (More rest) = Asked before c after rest
 abbrev pub grown : Cursor → ℕ → Cursor
 grown c n = record { from = c.from; have = c.have + n; passing = c.passing }
 
--- what the answer of a read means, by which n bytes came: below 0 it has failed, without a byte the input has ended
-abbrev pub arrival_of : ℤ → ℕ → Cursor → Arrival
-arrival_of got n c = cond (lt_z got (pos 0)) Failed (cond (eqb n 0) Ended (Came (grown c n)))
+-- what the answer of a read means: it has failed, or n bytes came; without a byte the input has ended
+abbrev pub arrival_of : Result ℕ Error → Cursor → Arrival
+arrival_of (Err e) c = Failed e
+arrival_of (Ok n) c = cond (eqb n 0) Ended (Came (grown c n))
 
 -- a read changes nothing of what stands before the bytes that it brings
 abbrev pub Kept : List ℕ → Cursor → List ℕ → Type 0
@@ -89,7 +91,14 @@ abbrev pub Brought : List ℕ → Cursor → List ℕ → Arrival → Type 0
 Brought before c after (Came more) =
     Kept before c after × Within more after × ((n : ℕ) × (0 < n) × (more ≡ grown c n))
 Brought before c after Ended = Kept before c after
-Brought before c after Failed = Kept before c after
+Brought before c after (Failed e) = Kept before c after
+
+-- where it is known what the reader has left: it loses the bytes that came, it has ended only where nothing was left,
+-- and a read that has failed takes nothing
+abbrev pub Gave : Option (List ℕ) → Option (List ℕ) → Cursor → List ℕ → Arrival → Type 0
+Gave known rest c after (Came more) = Consumes known rest (part after c.have more.have)
+Gave known rest c after Ended = Keeps known rest × IsAtEnd rest
+Gave known rest c after (Failed e) = Keeps known rest
 
 -- at the end of the input: all that is left is the last line, unless nothing is left
 abbrev pub tail_of : Cursor → Tail

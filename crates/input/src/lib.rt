@@ -1,13 +1,15 @@
-// Standard input by lines, in a buffer that the caller lends. `next` finds lines in what stands there and reads
-// nothing, so that its contract accounts for every byte: a line is handed out, one that the buffer can't hold is passed
-// over and told, or more is asked for. `read` reads once, and tells more bytes, the end and a failure apart.
+// An input by lines, in a buffer that the caller lends. `next` finds lines in what stands there and reads nothing, so
+// that its contract accounts for every byte: a line is handed out, one that the buffer can't hold is passed over and
+// told, or more is asked for. `read` reads once from a reader, as standard input is one, and tells more bytes, the end
+// and a failure apart.
 #![tactic(auto)]
 
-ghost use Rattle.std.specs.Prelude.{◌≡◌, false, ◌+◌, ◌-◌, ◌≤◌, ◌<◌, length, take};
-ghost use Rattle.input.specs.Lines.{part, Within, Handed, Brought, arrival_of, tail_of};
+ghost use Rattle.std.specs.Prelude.{◌≡◌, false, ◌+◌, ◌-◌, ◌≤◌, ◌<◌, length, take, IfOk};
+ghost use Rattle.input.specs.Lines.{part, Within, Handed, Brought, Gave, arrival_of, tail_of};
 ghost use Rattle.input.specs.Inner.Search.{FirstNewline};
 
-use libc::STDIN_FILENO;
+use std::io;
+use std::io::Read;
 
 // The bytes of the buffer from `from` up to `have` were read and not yet handed out. While a line that is too long is
 // passed over, they belong to it.
@@ -37,7 +39,7 @@ pub enum Line {
 pub enum Arrival {
     Came(Cursor),
     Ended,
-    Failed,
+    Failed(io::Error),
 }
 
 // What stands behind the last newline, where the input has ended.
@@ -130,14 +132,15 @@ pub fn next(buf: &mut [u8], c: Cursor) -> Line
     })
 }
 
-// What a read's answer means, and the number n of bytes that it brought.
-fn meant(got: isize, n: usize, c: Cursor) -> Arrival
-    requires { c.have + n ≤ 18446744073709551615 }
-    ensures { result ≡ arrival_of got n c }
+// What a read's answer means.
+fn meant(got: io::Result<usize>, c: Cursor) -> Arrival
+    requires { IfOk got (λ n. c.have + n ≤ 18446744073709551615) }
+    ensures { result ≡ arrival_of got c }
 {
-    if got < 0 {
-        return Arrival::Failed;
-    }
+    let n = match got {
+        Ok(n) => n,
+        Err(e) => return Arrival::Failed(e),
+    };
     if n == 0 {
         return Arrival::Ended;
     }
@@ -149,14 +152,14 @@ fn meant(got: isize, n: usize, c: Cursor) -> Arrival
 }
 
 // Reads once, behind what is left.
-pub fn read(buf: &mut [u8], c: Cursor) -> Arrival
+pub fn read<R: Read>(reader: &mut R, buf: &mut [u8], c: Cursor) -> Arrival
     requires { Within c buf.old × (c.have < length buf.old) }
-    ensures { Brought buf.old c buf.new result }
+    ensures brought { Brought buf.old c buf.new result }
+    ensures given { Gave (R.remaining reader.old) (R.remaining reader.new) c buf.new result }
 {
     let at = c.have;
-    let got = libc::read(STDIN_FILENO, &mut buf[at..]);
-    let n = io::count(got, &buf[at..]);
-    meant(got, n, c)
+    let got = reader.read(&mut buf[at..]);
+    meant(got, c)
 }
 
 // What is left where the input has ended: a last line may lack its newline.
