@@ -7,7 +7,7 @@ use Prim.Native.Nat.{ℕ, ◌+◌, ◌-◌, ◌*◌, ◌^◌, ◌<◌, ◌≤◌
 use native.Mathlib.Nat.{mul-le-mul_right}
 use native.Mathlib.Omega.{arith}
 use lib.IntN.{ℤ, nat_abs, neg_ℤ, ◌+ℤ◌, ◌-ℤ◌, ◌*ℤ◌, *ℤ_comm}
-use Rattle.integers.specs.Sum.{on_ℤ, sum_ℤ, sum_ℕ}
+use Rattle.integers.specs.Sum.{on_ℤ, sum_ℤ}
 use Rattle.integers.proofs.Ring.{dist_left, neg-*, neg-+, *-assoc}
 use Rattle.integers.proofs.Sums.{ints, sum_ext, sum_plus, sum_by_parity, sum_map}
 use Rattle.integers.proofs.Fold.{sum_times}
