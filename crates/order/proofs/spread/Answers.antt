@@ -1,0 +1,21 @@
+-- `order::spread` meets its contract: scan place by scan place, each put down by rows.
+use mathlib.Core.Path.{◌≡◌, ap, ◌∙◌}
+use Prim.Native.Nat.{ℕ}
+use native.Mathlib.Omega.{arith}
+use lib.ListN.{length-set, get_or, set}
+use Rattle.scan.specs.Scan.{scan_at}
+use Rattle.order.proofs.Spreading.{spread_more}
+use Rattle.order.proofs.spread.Goals as goal
+
+pub loop-n-preserved : goal.loop-n-preserved
+loop-n-preserved c =
+    let a = c.args in
+    let l = c.loop-n in
+    let v = get_or a.ms.now l.n 0 in
+    let after : c.put_magnitude.new.magnitudes ≡ set l.rows (scan_at a.w a.h l.n) v =
+    c.put_magnitude.ensures
+    ∙ ap (λ (k : ℕ). set l.rows k v) (c.block_place.ensures.0 ∙ ap (scan_at a.w a.h) c.scan_place.ensures.0) in
+    rw after (
+      simp length-set l.invariant.0,
+      spread_more a.w a.h a.scan.now c.requires.0 l.rows a.ms.now l.invariant.0 l.n (omega arith) l.invariant.1,
+    )
