@@ -6,7 +6,6 @@ use mathlib.Core.Bool.{Bool, true, false, cond}
 use mathlib.Core.List.{List}
 use mathlib.Core.Option.{none, some}
 use Prim.Native.Nat.{ℕ, ◌+◌, ◌≤◌, ◌<◌}
-use native.Mathlib.Omega.{arith}
 use borrow.Author.Tests.{lt-ltb, le-ltb}
 use lib.IntN.{ℤ}
 use lib.ListN.{length, take}
@@ -17,9 +16,8 @@ use Rattle.requests.specs.declared.request.Count.{Count}
 use Rattle.requests.specs.declared.request.Count.TheVariants as counts
 use Rattle.requests.specs.declared.request.Place.{Place}
 use Rattle.requests.specs.declared.request.Place.TheVariants as places
-use Rattle.requests.specs.Words.{words_of}
 use Rattle.requests.specs.Request.{kinds_of, has_list, most_behind, exactly_of, with_samples}
-use Rattle.requests.specs.Request.{behind_list, behind_fields, behind_verb, request_of, asked}
+use Rattle.requests.specs.Request.{behind_list, behind_fields, behind_verb, asked}
 use Rattle.requests.specs.Inner.Cursors.{end_from, words_from, Fields, Counted, Listed}
 use Rattle.requests.proofs.Spaces.{first_words}
 
