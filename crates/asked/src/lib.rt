@@ -189,13 +189,19 @@ fn other_form<E: Print>(err: &E, kind: u8) -> Found
     say(err, b"label: this is a P");
     let letter = [kind];
     say(err, &letter);
-    nothing(err, b" picture: label reads P2 and P5, which are grey (PGM)\n")
+    nothing(
+        err,
+        b" picture: label reads P2 and P5, which are grey (PGM)\n",
+    )
 }
 
 fn few_samples<E: Print>(err: &E, k: usize) -> Found
     ensures { Known result }
 {
-    say(err, b"label: the picture ends, or has something else than a number, behind its sample ");
+    say(
+        err,
+        b"label: the picture ends, or has something else than a number, behind its sample ",
+    );
     say_number(err, k as u64);
     nothing(err, b"\n")
 }
@@ -246,12 +252,18 @@ fn take_picture<E: Print>(err: &E, bytes: &[u8], camera: &mut [u16]) -> Found
 {
     match read_header(bytes) {
         Head::Is(header) => take_from(err, bytes, header, camera),
-        Head::NoPgm => nothing(err, b"label: this is not a PGM picture: neither P2 nor P5\n"),
+        Head::NoPgm => nothing(
+            err,
+            b"label: this is not a PGM picture: neither P2 nor P5\n",
+        ),
         Head::Other(kind) => other_form(err, kind),
         Head::NoWidth => nothing(err, b"label: the picture's width is missing or 0\n"),
         Head::NoHeight => nothing(err, b"label: the picture's height is missing or 0\n"),
         Head::TooLarge => nothing(err, b"label: the picture is larger than 256 by 256\n"),
-        Head::NoMost => nothing(err, b"label: the picture's maxval is missing, 0 or above 65535\n"),
+        Head::NoMost => nothing(
+            err,
+            b"label: the picture's maxval is missing, 0 or above 65535\n",
+        ),
         Head::NoSamples => nothing(err, b"label: no blank stands behind the picture's maxval\n"),
     }
 }
