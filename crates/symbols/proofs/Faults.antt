@@ -1,7 +1,7 @@
 -- The calls' faults one after the other, as their code meets them: what the answer is and what is held by what was lent
 -- where one holds, and where none does.
 -- Assumes nothing.
-use mathlib.Core.Path.{◌≡◌, sym, ap}
+use mathlib.Core.Path.{◌≡◌, sym}
 use mathlib.Core.Bool.{true, false}
 use mathlib.Core.List.{List, ◌++◌}
 use Prim.Native.Nat.{ℕ, ◌*◌, ◌^◌}
@@ -10,7 +10,7 @@ use lib.ListN.{length, take, drop}
 use lib.IntN.{ℤ, negsuc}
 use Rattle.integers.specs.Tests.{some, eq_ℤ}
 use Rattle.refusals.specs.Sides.{most_log2}
-use Rattle.refusals.specs.Faults.{Outcome, accepted, passed, refused, answering, if_accepted, outside}
+use Rattle.refusals.specs.Faults.{accepted, passed, refused, outside}
 use Rattle.runs.specs.Packing.{run_bits}
 use Rattle.runs.specs.Runs.{misread}
 use Rattle.runs.specs.Call.{writing, symbol_count, write_verdict, write_answer, symbols_here, write_list}
