@@ -1,13 +1,12 @@
 # x86.sh: sourced, at the repository's root, by what builds for x86-64 and runs it on whatever processor this is: with
-# the kit's clang, lld and C library, and on another processor with the kit's qemu. Its log is $out/log; $out is the
+# the kit's clang, lld and C library, and on another processor with a qemu of the PATH. Its log is $out/log; $out is the
 # caller's folder.
 machine=$(uname -m)
 triple=x86_64-unknown-linux-gnu
-kit=${RATTLE_HOME:-$(dirname "$(dirname "$(readlink -f "$(command -v rt)")")")}
-tools=$kit/on/$machine/toolchain/bin
-c_library=$kit/on/$machine/toolchain/lib
-qemu=$tools/qemu-x86_64
-[ -x "$qemu" ] || qemu=$(command -v qemu-x86_64) || qemu=
+kit=$(dirname "$(dirname "$(readlink -f "$(command -v rt)")")")
+tools=$kit/toolchain/bin
+c_library=$kit/toolchain/lib
+qemu=$(command -v qemu-x86_64) || qemu=
 
 say() { tail -40 "$out/log" >&2; exit 1; }
 
