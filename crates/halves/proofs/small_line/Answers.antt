@@ -1,0 +1,19 @@
+-- `halves::small_line` meets its contract: the line has room, and the row of its coefficients is halved.
+use mathlib.Core.Path.{refl, ◌∙◌, ap}
+use native.Mathlib.Omega.{arith}
+use Rattle.butterfly.specs.Inner.Lines.{place}
+use Rattle.columns.proofs.Places.{place_inside}
+use Rattle.halves.specs.Inner.Halves.{half}
+use Rattle.halves.proofs.small_line.Goals as goal
+
+pub line32-requires-clause-x_len : goal.line32-requires-clause-x_len
+line32-requires-clause-x_len c = (
+  c.requires.x_len.0,
+  omega arith,
+  record { most = 1047552; each = λ i h. c.requires.x_len.2 i (omega arith); room = omega arith },
+)
+
+pub returns : goal.returns
+returns c = λ k h.
+    c.halve.ensures (place 5 k) (omega (arith, place_inside 5 (omega arith) 32 refl k h))
+    ∙ ap half (c.line32.ensures.holds k h)
