@@ -1,5 +1,6 @@
-// The exports for C and Rust, nothing else: each takes whole numbers, f64s, slices and arrays, and answers 0 or a
-// refusal's number. What the numbers ask for, and what is left then, is said once, in `surface`.
+// What the exports for C and Rust do, nothing else: each takes whole numbers, f64s, slices and arrays, and answers 0 or a
+// refusal's number. What the numbers ask for, and what is left then, is said once, in `surface`. The symbols themselves
+// are `galemosu_c`'s.
 #![tactic(auto)]
 
 ghost use Rattle.std.specs.Prelude.{◌≡◌};
@@ -19,21 +20,18 @@ use wire::{
 
 // Which surface this is: 10000 times the first number of the version, 100 times the second, and the third. The header
 // and the host crate have the same number.
-#[unsafe(no_mangle)]
 pub extern "C" fn galemosu_version() -> u32
     ensures { result ≡ 600 }
 {
     600
 }
 
-#[unsafe(no_mangle)]
 pub extern "C" fn galemosu_transform(block: &mut [i16], log2_w: usize, log2_h: usize) -> u32
     ensures { TransLeft (called block.old log2_w log2_h) result block.new }
 {
     transform(block, log2_w, log2_h)
 }
 
-#[unsafe(no_mangle)]
 pub extern "C" fn galemosu_quantise_y(
     block: &mut [i16],
     log2_side: usize,
@@ -58,7 +56,6 @@ pub extern "C" fn galemosu_quantise_y(
     )
 }
 
-#[unsafe(no_mangle)]
 pub extern "C" fn galemosu_quantise_u(
     block: &mut [i16],
     log2_side: usize,
@@ -83,7 +80,6 @@ pub extern "C" fn galemosu_quantise_u(
     )
 }
 
-#[unsafe(no_mangle)]
 pub extern "C" fn galemosu_quantise_v(
     block: &mut [i16],
     log2_side: usize,
@@ -108,7 +104,6 @@ pub extern "C" fn galemosu_quantise_v(
     )
 }
 
-#[unsafe(no_mangle)]
 pub extern "C" fn galemosu_sub_block(
     buffer: &mut [i16],
     log2_luma: usize,
@@ -126,21 +121,18 @@ pub extern "C" fn galemosu_sub_block(
     sub_block(buffer, log2_luma, qp, lambda, run, flags, costs, answer)
 }
 
-#[unsafe(no_mangle)]
 pub extern "C" fn galemosu_scale_back(block: &mut [i16], log2_side: usize, qp: u32) -> u32
     ensures { ScaleLeft (levels_lent block.old log2_side qp) result block.new }
 {
     scale_back(block, log2_side, qp)
 }
 
-#[unsafe(no_mangle)]
 pub extern "C" fn galemosu_inverse(block: &mut [i16], log2_w: usize, log2_h: usize) -> u32
     ensures { InverseLeft (coefficients_lent block.old log2_w log2_h) result block.new }
 {
     inverse(block, log2_w, log2_h)
 }
 
-#[unsafe(no_mangle)]
 pub extern "C" fn galemosu_guarded_sub_block(
     buffer: &mut [i16],
     log2_luma: usize,
@@ -162,7 +154,6 @@ pub extern "C" fn galemosu_guarded_sub_block(
 }
 
 // No bit of the flags means anything.
-#[unsafe(no_mangle)]
 pub extern "C" fn galemosu_measure(
     residuals: &[i16],
     levels: &[i16],
@@ -177,7 +168,6 @@ pub extern "C" fn galemosu_measure(
     measure(residuals, levels, log2_side, qp, answer)
 }
 
-#[unsafe(no_mangle)]
 pub extern "C" fn galemosu_write_symbols(
     block: &[i16],
     log2_side: usize,
@@ -190,7 +180,6 @@ pub extern "C" fn galemosu_write_symbols(
     write_symbols(block, log2_side, list, answer)
 }
 
-#[unsafe(no_mangle)]
 pub extern "C" fn galemosu_read_symbols(list: &[u32], block: &mut [i16], log2_side: usize) -> u32
     ensures { ReadLeft (reading list.now block.old log2_side) result block.new }
 {
