@@ -1,5 +1,5 @@
 -- A sample as a residual and back, and the difference and darkening of two pictures. The guess is 700.
-use Rattle.std.specs.Prelude.{◌≡◌, cond, List, ℕ, suc, ◌+◌, ◌-◌, ◌≤◌, ◌<◌, min, max, ltb, ℤ, pos, negsuc, ◌-ℤ◌, get_or}
+use Rattle.std.specs.Prelude.{◌≡◌, cond, List, ℕ, suc, ◌+◌, ◌-◌, ◌≤◌, ◌<◌, min, ltb, ℤ, pos, negsuc, ◌-ℤ◌, get_or}
 use Rattle.integers.specs.Sum.{sum, on_max, at}
 use Rattle.picture.specs.declared.Size.{Size}
 use Rattle.picture.specs.Picture.{inside_of}
