@@ -9,7 +9,7 @@ use native.Mathlib.Omega.{arith}
 use lib.Pow.{pow_pos, pow_mono, pow-add}
 use lib.ListN.{length}
 use lib.IntN.{ℤ, pos, nat_abs, ◌*ℤ◌}
-use Rattle.integers.specs.Sum.{on_ℤ, sum_ℤ, at}
+use Rattle.integers.specs.Sum.{on_ℤ, at}
 use Rattle.integers.specs.Floor.{rounded}
 use Rattle.integers.specs.Tests.{listed}
 use Rattle.integers.proofs.Sums.{sum_ext}
