@@ -1,7 +1,7 @@
 -- `shown::views` meets its contract: the first i samples are stored.
 use mathlib.Core.Path.{ap, ◌∙◌}
 use borrow.Author.Count.{below_none}
-use borrow.Author.Rules.{rules, sfits_of}
+use borrow.Author.Rules.{rules}
 use lib.ListN.{length-set}
 use mir.Syntax.{w16}
 use mir.Val.{SFits}
@@ -21,7 +21,7 @@ loop-i-preserved c =
     let turn = read in
     let l = turn.loop-i in
     let block = turn.args.block.now in
-    let f : SFits w16 (at block l.i) = sfits_of read.viewed-arg-1.given in (
+    let f : SFits w16 (at block l.i) = search rules in (
       omega arith,
       simp length-set l.invariant.1,
       filled_more 0 l.view (λ j. viewed_of (at block j)) l.i _ (omega arith)
