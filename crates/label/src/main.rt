@@ -24,6 +24,8 @@ use price::Settings;
 use refusals::{Refusal, Verdict};
 use residuals::{inverse, scale_back};
 use shown::{block_apart, views};
+use std::io;
+use std::io::{Input, Print, Read};
 use transform::trans;
 
 // Such costs as a recorder has after some blocks: run, level, last, cbf.
@@ -88,8 +90,19 @@ fn decoded(block: &mut [i16; 96], qp: u32) -> bool {
     true
 }
 
-fn unwritten() {
-    os::fail(b"label: standard output");
+// Whether all was written. The error of a failed write is said at once, and nothing further is written then.
+fn told<E: Print>(err: &E, put: io::Result<()>) -> bool {
+    match put {
+        Ok(()) => true,
+        Err(why) => {
+            unwritten(err, why);
+            false
+        }
+    }
+}
+
+fn unwritten<E: Print>(err: &E, why: io::Error) {
+    let _ = err.println(format_args!("label: standard output: {why}"));
 }
 
 // What was made of a block, if it was not refused.
@@ -115,34 +128,38 @@ fn not_made() -> Made
     }
 }
 
-fn refused(text: &[u8]) -> Made
+fn refused<E: Print>(err: &E, text: &[u8]) -> Made
     ensures { Most 64 result.tally }
 {
-    say(text);
+    say(err, text);
     not_made()
 }
 
-fn too_far(b: usize) -> Made
+fn too_far<E: Print>(err: &E, b: usize) -> Made
     requires { b < 1024 }
     ensures { Most 64 result.tally }
 {
-    say(b"label: block ");
-    say_number(b as u64 + 1);
-    refused(b" can't be brought within the height at this QP\n")
+    say(err, b"label: block ");
+    say_number(err, b as u64 + 1);
+    refused(err, b" can't be brought within the height at this QP\n")
 }
 
-fn not_coded(why: Refusal, b: usize) -> Made
+fn not_coded<E: Print>(err: &E, why: Refusal, b: usize) -> Made
     requires { b < 1024 }
     ensures { Most 64 result.tally }
 {
     if let Refusal::Height = why {
-        return too_far(b);
+        return too_far(err, b);
     }
-    refused(b"label: the quantiser refuses a block at this QP and lambda\n")
+    refused(
+        err,
+        b"label: the quantiser refuses a block at this QP and lambda\n",
+    )
 }
 
 // Levels become the residuals that the viewer has; their text is made on the way.
-fn make_levels(
+fn make_levels<E: Print>(
+    err: &E,
     block: &mut [i16; 96],
     coefficients: &[i16; 96],
     levels: &mut [u8; 456],
@@ -154,7 +171,7 @@ fn make_levels(
 {
     let tally = put_levels(levels, coefficients, block, qp);
     if !decoded(block, qp) {
-        return refused(b"label: the viewer's half refuses a block\n");
+        return refused(err, b"label: the viewer's half refuses a block\n");
     }
     Made {
         ok: true,
@@ -164,27 +181,47 @@ fn make_levels(
 }
 
 // Residuals become levels, and these the residuals that the viewer has.
-fn make(block: &mut [i16; 96], levels: &mut [u8; 456], b: usize, asked: Asked) -> Made
+fn make<E: Print>(
+    err: &E,
+    block: &mut [i16; 96],
+    levels: &mut [u8; 456],
+    b: usize,
+    asked: Asked,
+) -> Made
     requires { Sound asked × (b < 1024) }
     ensures { Most 64 result.tally }
 {
     let mut coefficients = *block;
     if !transformed(&mut coefficients) {
-        return refused(b"label: the transform refuses a block\n");
+        return refused(err, b"label: the transform refuses a block\n");
     }
     match code(block, asked) {
-        GuardedAnswer::Coded(y, _, _) => make_levels(block, &coefficients, levels, asked.qp, y),
-        GuardedAnswer::Refused(why, _) => not_coded(why, b),
+        GuardedAnswer::Coded(y, _, _) => make_levels(
+            err,
+            block,
+            &coefficients,
+            levels,
+            asked.qp,
+            y,
+        ),
+        GuardedAnswer::Refused(why, _) => not_coded(err, why, b),
     }
 }
 
 // What the viewer shows of a block, kept and put on the page beside what the camera saw.
-fn show_views(kept: &mut [u16], size: Size, b: usize, seen: &[u16; 64], block: &[i16; 96]) -> bool
+fn show_views<W: Print>(
+    out: &W,
+    kept: &mut [u16],
+    size: Size,
+    b: usize,
+    seen: &[u16; 64],
+    block: &[i16; 96],
+) -> io::Result<()>
     requires { Sides size × (b < 1024) × (65536 ≤ length kept.old) }
 {
     let view = views(block);
     keep(kept, b, &view);
-    put_block(b, seen, &view, block_apart(size, b, seen, &view))
+    put_block(out, b, seen, &view, block_apart(size, b, seen, &view))
 }
 
 // Whether all was written, and the fates of what was shown.
@@ -194,18 +231,41 @@ struct Shown {
     tally: Tally,
 }
 
-// The error of a failed write is said at once, before another call has one.
-fn written(ok: bool, tally: Tally) -> Shown
+fn written<E: Print>(err: &E, put: io::Result<()>, tally: Tally) -> Shown
     requires { Most 64 tally }
     ensures { Most 64 result.tally }
 {
-    if !ok {
-        unwritten();
-    }
+    let ok = told(err, put);
     Shown { ok, tally }
 }
 
-fn show_block(camera: &[u16], kept: &mut [u16], size: Size, b: usize, asked: Asked) -> Shown
+// A block that was made: what is shown of it, and what was made of it.
+fn show_made<W: Print>(
+    out: &W,
+    kept: &mut [u16],
+    size: Size,
+    b: usize,
+    seen: &[u16; 64],
+    block: &[i16; 96],
+    levels: &[u8; 456],
+    tally: Tally,
+    coded: Guarded,
+) -> io::Result<()>
+    requires { Sides size × (b < 1024) × (65536 ≤ length kept.old) }
+{
+    show_views(out, kept, size, b, seen, block)?;
+    put_made(out, levels, tally, coded)
+}
+
+fn show_block<W: Print, E: Print>(
+    out: &W,
+    err: &E,
+    camera: &[u16],
+    kept: &mut [u16],
+    size: Size,
+    b: usize,
+    asked: Asked,
+) -> Shown
     requires sides { Sides size × (b < 1024) × Sound asked }
     requires in_bounds { (65536 ≤ length camera.now) × (65536 ≤ length kept.old) }
     ensures { Most 64 result.tally }
@@ -213,18 +273,25 @@ fn show_block(camera: &[u16], kept: &mut [u16], size: Size, b: usize, asked: Ask
     let seen = take_block(camera, size, b);
     let mut block = shown::residuals(&seen);
     let mut levels = [b' '; 456];
-    let made = make(&mut block, &mut levels, b, asked);
+    let made = make(err, &mut block, &mut levels, b, asked);
     let tally = made.tally;
     if !made.ok {
         return Shown { ok: false, tally };
     }
     let coded = made.coded;
-    let ok = show_views(kept, size, b, &seen, &block) && put_made(&levels, tally, coded);
-    written(ok, tally)
+    let put = show_made(out, kept, size, b, &seen, &block, &levels, tally, coded);
+    written(err, put, tally)
 }
 
 // Every block, one behind the other, and what became of all levels.
-fn show_blocks(camera: &[u16], kept: &mut [u16], size: Size, asked: Asked) -> bool
+fn show_blocks<W: Print, E: Print>(
+    out: &W,
+    err: &E,
+    camera: &[u16],
+    kept: &mut [u16],
+    size: Size,
+    asked: Asked,
+) -> bool
     requires sides { Sides size × Sound asked }
     requires in_bounds { (65536 ≤ length camera.now) × (65536 ≤ length kept.old) }
 {
@@ -232,54 +299,67 @@ fn show_blocks(camera: &[u16], kept: &mut [u16], size: Size, asked: Asked) -> bo
     let mut t = fates::none();
     let mut b = 0;
     while b < n {
-        let s = show_block(camera, kept, size, b, asked);
+        let s = show_block(out, err, camera, kept, size, b, asked);
         if !s.ok {
             return false;
         }
         t = t.with(s.tally);
         b += 1;
     }
-    put_sum(t)
+    told(err, put_sum(out, t))
 }
 
-fn show_picture(camera: &[u16], size: Size, most: u32, asked: Asked)
+fn show_picture<W: Print, E: Print>(
+    out: &W,
+    err: &E,
+    camera: &[u16],
+    size: Size,
+    most: u32,
+    asked: Asked,
+)
     requires { Sides size × Sound asked × (65536 ≤ length camera.now) }
 {
     let mut kept = [0u16; 65536];
     let mut shown = [0u16; 65536];
-    if !put_head(size, most, asked) {
-        unwritten();
+    if !told(err, put_head(out, size, most, asked)) {
         return;
     }
-    if !show_blocks(camera, &mut kept, size, asked) {
+    if !show_blocks(out, err, camera, &mut kept, size, asked) {
         return;
     }
     by_rows(&kept, size, &mut shown);
-    if !put_shown(camera, &shown, size, asked) {
-        unwritten();
-    }
+    told(err, put_shown(out, camera, &shown, size, asked));
 }
 
-fn show_read(bytes: &mut [u8], camera: &mut [u16], asked: Asked)
+fn show_read<R: Read, W: Print, E: Print>(
+    reader: &mut R,
+    out: &W,
+    err: &E,
+    bytes: &mut [u8],
+    camera: &mut [u16],
+    asked: Asked,
+)
     requires { Sound asked × (65536 ≤ length camera.old) }
 {
-    match read_picture(bytes, camera) {
-        Found::Picture(size, most) => show_picture(camera, size, most, asked),
+    match read_picture(reader, err, bytes, camera) {
+        Found::Picture(size, most) => show_picture(out, err, camera, size, most, asked),
         Found::Nothing => {}
     }
 }
 
-fn show(asked: Asked)
+fn show<R: Read, W: Print, E: Print>(reader: &mut R, out: &W, err: &E, asked: Asked)
     requires { Sound asked }
 {
     let mut bytes = [0u8; 524288];
     let mut camera = [0u16; 65536];
-    show_read(&mut bytes, &mut camera, asked);
+    show_read(reader, out, err, &mut bytes, &mut camera, asked);
 }
 
-fn main() {
-    match read_words() {
-        Words::Mean(asked) => show(asked),
+fn main(rt: HostRuntime) {
+    let out = rt.stdout();
+    let err = rt.stderr();
+    match read_words(&rt, &err) {
+        Words::Mean(asked) => show(&mut rt.reader(), &out, &err, asked),
         Words::Nothing => {}
     }
 }

@@ -6,81 +6,93 @@ ghost use Rattle.std.specs.Prelude.{◌<◌, length};
 ghost use Rattle.input.specs.Lines.{Within};
 
 use input::{Arrival, Cursor, Line, Tail};
-use libc::STDOUT_FILENO;
+use std::io;
+use std::io::{Input, Print, Read};
 
 // How it has ended.
 #[derive(Drop)]
 enum End {
     Answered,
-    Unread,
-    Unwritten,
+    Unread(io::Error),
+    Unwritten(io::Error),
 }
 
-// Writes the answer and a newline; false where that failed.
-fn answer(line: &[u8], out: &mut [u8; 65536]) -> bool {
-    let n = protocol::answer(line, out);
-    out[n] = b'\n';
-    let text: &[u8] = out;
-    io::write_all(STDOUT_FILENO, &text[..n + 1])
+// Writes the answer and a newline.
+fn answer<W: Print>(out: &W, line: &[u8], text: &mut [u8; 65536]) -> io::Result<()> {
+    let n = protocol::answer(line, text);
+    text[n] = b'\n';
+    let whole: &[u8] = text;
+    out.write_all(&whole[..n + 1])
 }
 
 // A line without bytes is malformed, and so is one that was passed over.
-fn answer_too_long(out: &mut [u8; 65536]) -> bool {
-    answer(b"", out)
+fn answer_too_long<W: Print>(out: &W, text: &mut [u8; 65536]) -> io::Result<()> {
+    answer(out, b"", text)
 }
 
-fn written(ok: bool) -> End {
-    if ok { End::Answered } else { End::Unwritten }
+fn written(put: io::Result<()>) -> End {
+    match put {
+        Ok(()) => End::Answered,
+        Err(why) => End::Unwritten(why),
+    }
 }
 
 // What stands behind the last newline.
-fn answer_last(buf: &[u8], c: Cursor, out: &mut [u8; 65536]) -> End
+fn answer_last<W: Print>(out: &W, buf: &[u8], c: Cursor, text: &mut [u8; 65536]) -> End
     requires { Within c buf.now }
 {
     match input::last(c) {
-        Tail::At { from, end } => written(answer(&buf[from..end], out)),
-        Tail::TooLong => written(answer_too_long(out)),
+        Tail::At { from, end } => written(answer(out, &buf[from..end], text)),
+        Tail::TooLong => written(answer_too_long(out, text)),
         Tail::Nothing => End::Answered,
     }
 }
 
-// The loop counts its turns down, from a number that no run uses up: it ends at the end of the input.
-fn answer_all(buf: &mut [u8], out: &mut [u8; 65536]) -> End
+// The loop counts its turns, up to a number that no run uses up: it ends at the end of the input.
+fn answer_all<R: Read, W: Print>(
+    reader: &mut R,
+    out: &W,
+    buf: &mut [u8],
+    text: &mut [u8; 65536],
+) -> End
     requires { 0 < length buf.old }
 {
     let mut c = input::start();
-    let mut turns = u64::MAX;
-    while turns > 0 {
-        turns -= 1;
+    for _ in 0..u64::MAX {
         match input::next(buf, c) {
             Line::At { from, end, rest } => {
-                if !answer(&buf[from..end], out) {
-                    return End::Unwritten;
+                if let Err(why) = answer(out, &buf[from..end], text) {
+                    return End::Unwritten(why);
                 }
                 c = rest;
             }
             Line::TooLong(rest) => {
-                if !answer_too_long(out) {
-                    return End::Unwritten;
+                if let Err(why) = answer_too_long(out, text) {
+                    return End::Unwritten(why);
                 }
                 c = rest;
             }
-            Line::More(rest) => match input::read(buf, rest) {
+            Line::More(rest) => match input::read(reader, buf, rest) {
                 Arrival::Came(more) => c = more,
-                Arrival::Ended => return answer_last(buf, rest, out),
-                Arrival::Failed => return End::Unread,
+                Arrival::Ended => return answer_last(out, buf, rest, text),
+                Arrival::Failed(why) => return End::Unread(why),
             },
         }
     }
     End::Answered
 }
 
-fn main() {
-    let mut buf = io::large_buffer();
-    let mut out = io::large_buffer();
-    match answer_all(&mut buf, &mut out) {
+fn main(rt: HostRuntime) {
+    let mut buf = [0u8; 65536];
+    let mut text = [0u8; 65536];
+    let err = rt.stderr();
+    match answer_all(&mut rt.reader(), &rt.stdout(), &mut buf, &mut text) {
         End::Answered => {}
-        End::Unread => os::fail(b"tq: standard input"),
-        End::Unwritten => os::fail(b"tq: standard output"),
+        End::Unread(why) => {
+            let _ = err.println(format_args!("tq: standard input: {why}"));
+        }
+        End::Unwritten(why) => {
+            let _ = err.println(format_args!("tq: standard output: {why}"));
+        }
     }
 }
