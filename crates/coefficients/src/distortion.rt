@@ -56,6 +56,7 @@ fn part_length(g: Scale) -> usize
     (8589934592 / (front * front)) as usize
 }
 
+#[tactic(auto, using(crate::proofs::Uncoding::part_and_rest))]
 pub fn uncoded(block: &[i16], g: Scale) -> u64
     requires { Sound g × Within block.now 32767 }
     ensures { Held (over on_ℕ (zero_distortion g) block.now) result }

@@ -5,6 +5,14 @@ use Rattle.scaling.proofs.Squaring.{Gap, whole, either, gap_near}
 use Rattle.scaling.proofs.errors.squared.Goals.{then-s-l, else-s-l}
 use Rattle.scaling.proofs.errors.squared.Goals as goal
 
+pub returns : goal.returns
+returns c =
+    let way : Gap c.args.g c.requires.0 c.args.l c.args.a c.requires.1 c.if-s-l.d c.if-s-l.up = elim c.if-s-l.branch [
+      | then-s-l w ↦ inl (omega arith, omega arith, omega arith)
+      | else-s-l w ↦ inr (omega arith, omega arith, omega arith)
+    ] in
+    either _ c.requires.0 _ _ c.requires.1 _ _ way
+
 pub overflow_mul-s : goal.overflow_mul-s
 overflow_mul-s c = record { fits = omega (arith, c.requires.1.twice, whole _ c.requires.0 _ _ c.requires.1) }
 
@@ -32,11 +40,3 @@ overflow_mul-result c =
       | else-s-l w ↦ inr (omega arith, omega arith, omega arith)
     ] in
     record { fits = omega (arith, (either _ c.requires.0 _ _ c.requires.1 _ _ way).small) }
-
-pub returns : goal.returns
-returns c =
-    let way : Gap c.args.g c.requires.0 c.args.l c.args.a c.requires.1 c.if-s-l.d c.if-s-l.up = elim c.if-s-l.branch [
-      | then-s-l w ↦ inl (omega arith, omega arith, omega arith)
-      | else-s-l w ↦ inr (omega arith, omega arith, omega arith)
-    ] in
-    either _ c.requires.0 _ _ c.requires.1 _ _ way

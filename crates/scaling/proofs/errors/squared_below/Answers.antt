@@ -6,16 +6,13 @@ use Rattle.scaling.proofs.errors.squared_below.Goals as goal
 
 pub overflow_mul-x-2 : goal.overflow_mul-x-2
 overflow_mul-x-2 c =
-    let s = c in
-    let a = s.args in
-    record { fits = omega (arith, near _ s.requires.0 _ _ s.requires.1 (a.l - a.a * a.g.unit) (omega arith)) }
+    let a = c.args in
+    record { fits = omega (arith, near _ c.requires.0 _ _ c.requires.1 (a.l - a.a * a.g.unit) (omega arith)) }
 
 pub overflow_mul-result : goal.overflow_mul-result
 overflow_mul-result c =
-    let s = c in
-    record { fits = omega (arith, (below _ s.requires.0 _ _ s.requires.1 s.requires.2).small) }
+    record { fits = omega (arith, (below _ c.requires.0 _ _ c.requires.1 c.requires.2).small) }
 
 pub returns : goal.returns
 returns c =
-    let s = c in
-    below _ s.requires.0 _ _ s.requires.1 s.requires.2
+    below _ c.requires.0 _ _ c.requires.1 c.requires.2

@@ -10,20 +10,18 @@ overflow_mul-result c = record { fits = omega (arith, mul-le-mul c.requires.1 c.
 
 pub overflow_add-result : goal.overflow_add-result
 overflow_add-result c =
-    let s = c in
-    let h = s.requires.0 in
+    let h = c.requires.0 in
     record {
       fits = omega (
         arith,
-        mul-le-mul s.requires.1 h.wide_q,
+        mul-le-mul c.requires.1 h.wide_q,
         h.twice,
         h.unit,
-        unit_range s.args.g.shift h.high,
+        unit_range c.args.g.shift h.high,
       );
     }
 
 pub returns : goal.returns
 unfolding nearest
 returns c =
-    let s = c in
-    rounded_range s.args.g s.requires.0 s.args.c s.requires.1
+    rounded_range c.args.g c.requires.0 c.args.c c.requires.1

@@ -20,27 +20,23 @@ overflow_mul-rest c = record
 
 pub overflow_mul-rest-2 : goal.overflow_mul-rest-2
 overflow_mul-rest-2 c =
-    let s = c in
-    let x = error_range forward forward_usable s.args.log2_side s.args.qp s.requires.1 in
-    record { fits = omega (arith, product _ _ _ _ c.scale-q.ensures c.error_scale-error.ensures, x.1, front_range s.args.log2_side s.requires.1) }
+    let x = error_range forward forward_usable c.args.log2_side c.args.qp c.requires.1 in
+    record { fits = omega (arith, product _ _ _ _ c.scale-q.ensures c.error_scale-error.ensures, x.1, front_range c.args.log2_side c.requires.1) }
 
 pub overflow_sub-rest : goal.overflow_sub-rest
 overflow_sub-rest c =
-    let s = c in
-    let x = error_range forward forward_usable s.args.log2_side s.args.qp s.requires.1 in
-    omega (arith, product _ _ _ _ c.scale-q.ensures c.error_scale-error.ensures, x.1, front_range s.args.log2_side s.requires.1)
+    let x = error_range forward forward_usable c.args.log2_side c.args.qp c.requires.1 in
+    omega (arith, product _ _ _ _ c.scale-q.ensures c.error_scale-error.ensures, x.1, front_range c.args.log2_side c.requires.1)
 
 pub overflow_add-least : goal.overflow_add-least
 unfolding shift_of
 overflow_add-least c =
-    let s = c in
-    let h = half_range s.args.log2_side s.args.qp s.requires.0 s.requires.1 s.requires.2 in
-    record { fits = omega (arith, c.scale-q.ensures, scale_range s.args.qp) }
+    let h = half_range c.args.log2_side c.args.qp c.requires.0 c.requires.1 c.requires.2 in
+    record { fits = omega (arith, c.scale-q.ensures, scale_range c.args.qp) }
 
 pub overflow_sub-least : goal.overflow_sub-least
 overflow_sub-least c =
-    let s = c in
-    omega (arith, scale_range s.args.qp, c.scale-q.ensures)
+    omega (arith, scale_range c.args.qp, c.scale-q.ensures)
 
 pub overflow_cast-result : goal.overflow_cast-result
 overflow_cast-result c = record
@@ -48,29 +44,27 @@ overflow_cast-result c = record
 
 pub overflow_cast-result-2 : goal.overflow_cast-result-2
 overflow_cast-result-2 c =
-    let s = c in
-    let x = error_range forward forward_usable s.args.log2_side s.args.qp s.requires.1 in
+    let x = error_range forward forward_usable c.args.log2_side c.args.qp c.requires.1 in
     record {
       fits = omega (
         arith,
         product _ _ _ _ c.scale-q.ensures c.error_scale-error.ensures,
         x.2,
-        scale_range s.args.qp,
-        front_range s.args.log2_side s.requires.1,
+        scale_range c.args.qp,
+        front_range c.args.log2_side c.requires.1,
       );
     }
 
 pub overflow_cast-result-3 : goal.overflow_cast-result-3
 unfolding shift_of
 overflow_cast-result-3 c =
-    let s = c in
-    let h = half_range s.args.log2_side s.args.qp s.requires.0 s.requires.1 s.requires.2 in
-    let q = scale_range s.args.qp in
+    let h = half_range c.args.log2_side c.args.qp c.requires.0 c.requires.1 c.requires.2 in
+    let q = scale_range c.args.qp in
     record {
       fits = omega (
         arith,
         c.scale-q.ensures,
-        least_range (1 * 2 ^ (shift_of s.args.log2_side s.args.qp - 1) % 18446744073709551616)
+        least_range (1 * 2 ^ (shift_of c.args.log2_side c.args.qp - 1) % 18446744073709551616)
             c.scale-q.result (omega (arith, c.scale-q.ensures)) (omega arith),
       );
     }
@@ -78,14 +72,13 @@ overflow_cast-result-3 c =
 pub returns : goal.returns
 unfolding shift_of
 returns c =
-    let s = c in
-    let u = shift_range s.args.log2_side s.args.qp s.requires.0 s.requires.1 s.requires.2 in
-    scale_sound forward forward_usable s.args.log2_side s.args.qp s.requires.0 s.requires.1 s.requires.2 _
+    let u = shift_range c.args.log2_side c.args.qp c.requires.0 c.requires.1 c.requires.2 in
+    scale_sound forward forward_usable c.args.log2_side c.args.qp c.requires.0 c.requires.1 c.requires.2 _
     c.scale-q.ensures
     refl
     (bit _ (omega arith))
     (bit _ (omega arith))
-    (c.error_scale-error.ensures ∙ ap (error_scale s.args.log2_side) (sym c.scale-q.ensures))
+    (c.error_scale-error.ensures ∙ ap (error_scale c.args.log2_side) (sym c.scale-q.ensures))
     (bit _ (omega arith))
     refl
     refl
