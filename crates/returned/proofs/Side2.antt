@@ -10,13 +10,12 @@ use borrow.Author.Tests.{ltb-false, le-ltb}
 use lib.Dec.{lit<}
 use lib.ListN.{length, length-take, take, drop}
 use lib.Seq.{get_or-take}
-use lib.IntN.{ℤ, pos, negsuc, nat_abs, ◌+ℤ◌, ◌*ℤ◌}
+use lib.IntN.{ℤ, pos, nat_abs}
 use Rattle.integers.specs.Floor.{rounded}
 use Rattle.integers.specs.Clip.{clipped}
-use Rattle.integers.proofs.Parts.{above, below, +-parts, neg_above, neg_below, eq_of_parts}
-use Rattle.integers.proofs.Ring.{neg-*}
+use Rattle.integers.proofs.Parts.{above, below, eq_of_parts}
 use Rattle.integers.proofs.Clip.{clip_within}
-use Rattle.integers.proofs.Split.{multiple_above, multiple_below, floor_exact}
+use Rattle.integers.proofs.Split.{floor_exact}
 use Rattle.integers.specs.Sum.{at}
 use Rattle.integers.proofs.Some.{none_above}
 use Rattle.refusals.specs.Faults.{Outcome, passed, if_accepted}
