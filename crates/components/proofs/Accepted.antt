@@ -12,7 +12,7 @@ use Rattle.integers.proofs.Tests.{neither, not_both}
 use Rattle.refusals.specs.declared.Component.{Component}
 use Rattle.refusals.specs.declared.Component.TheVariants.{Y, U, «V»}
 use Rattle.refusals.specs.Sides.{most_log2}
-use Rattle.refusals.specs.Faults.{outside, Outcome, accepted, passed, verdict}
+use Rattle.refusals.specs.Faults.{outside, Outcome, passed, verdict}
 use Rattle.refusals.proofs.First.{None, head_fails, rest_fails, no_fault_if_accepted, inside, or_else, both_accepted}
 use Rattle.transform.specs.Call.{wild, sample_fault}
 use Rattle.price.specs.Lambda.{lambda_refused}

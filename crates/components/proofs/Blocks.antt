@@ -15,7 +15,7 @@ use Rattle.integers.specs.Tests.{some}
 use Rattle.scan.proofs.Laid.{laid_length}
 use Rattle.refusals.specs.declared.Component.{Component}
 use Rattle.refusals.specs.Sides.{most_log2}
-use Rattle.refusals.specs.Faults.{outside, accepted, passed}
+use Rattle.refusals.specs.Faults.{outside, passed}
 use Rattle.refusals.proofs.First.{end, but, accepted_without_a_fault}
 use Rattle.transform.specs.Coefficients.{coefficients}
 use Rattle.transform.specs.Call.{Trans, wild, places, side_fault, length_fault, sample_fault, trans_faults, trans_verdict}

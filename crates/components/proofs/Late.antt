@@ -14,7 +14,7 @@ use Rattle.refusals.specs.declared.Component.{Component}
 use Rattle.refusals.specs.declared.Component.TheVariants.{Y, U, «V»}
 use Rattle.refusals.specs.Numbers.{number_of, component_of}
 use Rattle.refusals.specs.Sides.{most_log2}
-use Rattle.refusals.specs.Faults.{Fault, outside, Outcome, accepted, passed, refused, verdict}
+use Rattle.refusals.specs.Faults.{Fault, outside, Outcome, passed, refused, verdict}
 use Rattle.refusals.proofs.First.{None, or_else, verdict_append, end, but}
 use Rattle.refusals.proofs.Prefix.{verdict_past, past_front}
 use Rattle.price.specs.Lambda.{lambda_refused}

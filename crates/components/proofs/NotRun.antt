@@ -11,7 +11,7 @@ use lib.ListN.{length}
 use Rattle.refusals.specs.declared.Component.{Component}
 use Rattle.refusals.specs.declared.Component.TheVariants.{Y, U, «V»}
 use Rattle.refusals.specs.Sides.{most_log2}
-use Rattle.refusals.specs.Faults.{Fault, outside, Outcome, accepted, passed, refused}
+use Rattle.refusals.specs.Faults.{Fault, outside, Outcome, accepted, refused}
 use Rattle.refusals.proofs.First.{Alike, all, next, same_verdict}
 use Rattle.transform.specs.Coefficients.{coefficients}
 use Rattle.transform.specs.Call.{Trans}

@@ -3,7 +3,7 @@
 -- other (proofs/Late.antt), and a promise often asks only for the first two.
 use Rattle.std.specs.Prelude.{◌≡◌, List, [], ◌∷◌}
 use Rattle.refusals.specs.declared.Component.TheVariants.{Y, U, «V»}
-use Rattle.refusals.specs.Faults.{Fault, accepted, passed, verdict}
+use Rattle.refusals.specs.Faults.{Fault, passed, verdict}
 use Rattle.transform.specs.Call as trans
 use Rattle.coding.specs.Block.{Quant}
 use Rattle.coding.specs.Call as quant
