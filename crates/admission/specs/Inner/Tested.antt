@@ -5,7 +5,7 @@ use Rattle.std.specs.Prelude.{◌≡◌, List, ℕ, ◌+◌, ◌-◌, ◌*◌, �
 use Rattle.refusals.specs.declared.Component.{Component}
 use Rattle.refusals.specs.declared.Component.TheVariants.{Y, U, «V»}
 use Rattle.refusals.specs.Numbers.{number_of, component_of}
-use Rattle.refusals.specs.Faults.{Outcome, accepted, passed, refused}
+use Rattle.refusals.specs.Faults.{Outcome, passed, refused}
 use Rattle.price.specs.declared.Settings.{Settings}
 use Rattle.components.specs.declared.Request.{Request}
 use Rattle.admission.specs.declared.Tested.{Tested}
