@@ -7,14 +7,13 @@ use mathlib.Core.Logic.{◌⊎◌}
 use mathlib.Core.Bool.{true}
 use Prim.Native.Nat.{ℕ, ◌+◌, ◌≤◌, ◌<◌}
 use native.Mathlib.Omega.{arith}
-use lib.Dec.{T, leb→le, le→leb}
+use lib.Dec.{leb→le, le→leb}
 use lib.IntN.{ℤ, pos, negsuc, ◌+ℤ◌, ◌-ℤ◌}
 use lib.Signed.{◌≤ℤ◌, ◌<ℤ◌}
 use Rattle.integers.specs.Sum.{at}
 use Rattle.refusals.specs.declared.Component.{Component}
 use Rattle.refusals.specs.Faults.{passed}
 use Rattle.components.specs.Call.{runs, area, stretch}
-use Rattle.heights.specs.Extremes.{darker, lighter}
 use Rattle.heights.specs.Shown.{shown}
 use Rattle.heights.proofs.Exact.{darkest_reached, lightest_reached}
 use Rattle.heights.proofs.Shown.{shown_within_heights, one_threshold_separates}

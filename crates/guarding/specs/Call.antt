@@ -1,7 +1,7 @@
 -- `guarded_sub_block`: its faults in order, its answer, and what its buffer then holds, as functions of all its inputs.
 -- Its faults are those of the three-component call, in their order, and behind those of each component's coefficients
 -- that none of its candidates fits.
-use Rattle.std.specs.Prelude.{Bool, ◌&&◌, cond, List, [], ◌∷◌, ◌++◌, ℕ, ◌+◌, drop, ℤ}
+use Rattle.std.specs.Prelude.{◌&&◌, cond, List, [], ◌∷◌, ◌++◌, ℕ, ◌+◌, drop, ℤ}
 use Rattle.refusals.specs.declared.Component.{Component}
 use Rattle.refusals.specs.declared.Component.TheVariants.{Y, U, «V»}
 use Rattle.refusals.specs.declared.Refusal.TheVariants.{Height}
