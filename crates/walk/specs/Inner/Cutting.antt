@@ -1,5 +1,5 @@
 -- The totals that the walk begins with, and what its cut leaves.
-use Rattle.std.specs.Prelude.{◌≡◌, cond, ◌&&◌, List, ℕ, ◌+◌, ◌*◌, ◌≤◌, ◌<◌, max, leb, ltb, length, get_or}
+use Rattle.std.specs.Prelude.{◌≡◌, cond, ◌&&◌, List, ℕ, ◌+◌, ◌*◌, ◌<◌, max, leb, ltb, length, get_or}
 use Rattle.scan.specs.Scan.{scan_at}
 use Rattle.weights.specs.declared.prices.Prices.{Prices}
 use Rattle.step.specs.declared.Walk.{Walk}
