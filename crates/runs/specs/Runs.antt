@@ -26,12 +26,12 @@ abbrev pub symbol_of : (run : ℕ) → ℤ → (last : Bool) → Symbol
 symbol_of run z last = record { run = run; magnitude = nat_abs z; negative = below0 z; last = last }
 
 -- of the levels behind so many zeros
-unfoldable pub symbols_after : (zeros : ℕ) → List ℤ → List Symbol
+unfoldable pub symbols_after : (run : ℕ) → List ℤ → List Symbol
 unfolding some
-symbols_after zeros [] = []
-symbols_after zeros (z ∷ zs) =
-    let here = symbol_of zeros z (not (some nonzero zs)) in
-    cond (is_zero z) (symbols_after (suc zeros) zs) (here ∷ symbols_after 0 zs)
+symbols_after run [] = []
+symbols_after run (z ∷ zs) =
+    let here = symbol_of run z (not (some nonzero zs)) in
+    cond (is_zero z) (symbols_after (suc run) zs) (here ∷ symbols_after 0 zs)
 
 unfoldable pub symbols_of : List ℤ → List Symbol
 unfolding symbols_after
