@@ -1,0 +1,25 @@
+-- `protocol::answer_in` meets its contract: the verb is the line's first word, and what is behind it is the request's.
+use mathlib.Core.Path.{sym, ap}
+use Rattle.requests.proofs.Asked.{too_long, verb_malformed, verb_read}
+use Rattle.protocol.specs.Answer.{answer_of, answer_to}
+use Rattle.protocol.proofs.Retold.{retold}
+use Rattle.protocol.proofs.answer_in.Goals as goal
+
+pub returns-then-line-gt65535 : goal.returns-then-line-gt65535
+unfolding answer_to
+returns-then-line-gt65535 c =
+    retold (ap answer_of (too_long c.args.line.now c.if-line-gt65535.true)) c.put_malformed.ensures
+
+pub returns-in_default : goal.returns-in_default
+unfolding answer_to
+returns-in_default c =
+    retold
+    (ap answer_of (verb_malformed _ c.if-line-gt65535.false _ c.word_end-end.ensures.2 (sym c.in_default.ensures)))
+    c.put_malformed-in_default.ensures
+
+pub returns : goal.returns
+unfolding answer_to
+returns c =
+    retold
+    (ap answer_of (verb_read _ c.if-line-gt65535.false _ c.word_end-end.ensures.2 _ (sym c.in-Is.ensures)))
+    c.answer_verb.ensures
