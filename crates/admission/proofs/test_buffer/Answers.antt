@@ -27,7 +27,9 @@ long log2 n len z h = le-ltb len (2 ^ log2 * 2 ^ log2 * 3 / 2) (omega (arith, ro
 
 pub returns-then-costs_refused : goal.returns-then-costs_refused
 unfolding buffer_faults requested cost_fault
-returns-then-costs_refused c = sym (refused_past untested (sym c.costs_refused.ensures ∙ c.if-costs_refused.true))
+returns-then-costs_refused c =
+    sym
+    (refused_past untested (sym c.costs_refused.ensures ∙ c.if-costs_refused.true))
 
 pub returns-then-buffer-v_end : goal.returns-then-buffer-v_end
 unfolding buffer_faults requested cost_fault length_fault area
@@ -38,16 +40,60 @@ returns-then-buffer-v_end c =
 -- ---- the residuals of Y, U, V
 pub returns-then-bad_residuals : goal.returns-then-bad_residuals
 unfolding buffer_faults requested cost_fault length_fault area
-returns-then-bad_residuals c = sym (refused_past (past (past untested (sym c.costs_refused.ensures ∙ c.if-costs_refused.false)) (long _ _ _ c.luma_places-n.ensures c.if-buffer-v_end.false)) (sample_is c.args.buffer.now (costs_of c.args.costs.now) c.args.q c.luma_places-n.result c.luma_places-n.ensures Y c.bad_residuals.ensures c.if-bad_residuals.true))
+returns-then-bad_residuals c =
+    sym
+    (refused_past
+    (past
+    (past untested (sym c.costs_refused.ensures ∙ c.if-costs_refused.false))
+    (long _ _ _ c.luma_places-n.ensures c.if-buffer-v_end.false))
+    (sample_is c.args.buffer.now (costs_of c.args.costs.now) c.args.q _ c.luma_places-n.ensures Y
+    c.bad_residuals.ensures c.if-bad_residuals.true))
 
 pub returns-then-bad_residuals-2 : goal.returns-then-bad_residuals-2
 unfolding buffer_faults requested cost_fault length_fault area
-returns-then-bad_residuals-2 c = sym (refused_past (past (past (past untested (sym c.costs_refused.ensures ∙ c.if-costs_refused.false)) (long _ _ _ c.luma_places-n.ensures c.if-buffer-v_end.false)) (sample_is c.args.buffer.now (costs_of c.args.costs.now) c.args.q c.luma_places-n.result c.luma_places-n.ensures Y c.bad_residuals.ensures c.if-bad_residuals.false)) (sample_is c.args.buffer.now (costs_of c.args.costs.now) c.args.q c.luma_places-n.result c.luma_places-n.ensures U c.bad_residuals-2.ensures c.if-bad_residuals-2.true))
+returns-then-bad_residuals-2 c =
+    sym
+    (refused_past
+    (past
+    (past
+    (past untested (sym c.costs_refused.ensures ∙ c.if-costs_refused.false))
+    (long _ _ _ c.luma_places-n.ensures c.if-buffer-v_end.false))
+    (sample_is c.args.buffer.now (costs_of c.args.costs.now) c.args.q _ c.luma_places-n.ensures Y
+    c.bad_residuals.ensures c.if-bad_residuals.false))
+    (sample_is c.args.buffer.now (costs_of c.args.costs.now) c.args.q _ c.luma_places-n.ensures U
+    c.bad_residuals-2.ensures c.if-bad_residuals-2.true))
 
 pub returns-then-bad_residuals-3 : goal.returns-then-bad_residuals-3
 unfolding buffer_faults requested cost_fault length_fault area
-returns-then-bad_residuals-3 c = sym (refused_past (past (past (past (past untested (sym c.costs_refused.ensures ∙ c.if-costs_refused.false)) (long _ _ _ c.luma_places-n.ensures c.if-buffer-v_end.false)) (sample_is c.args.buffer.now (costs_of c.args.costs.now) c.args.q c.luma_places-n.result c.luma_places-n.ensures Y c.bad_residuals.ensures c.if-bad_residuals.false)) (sample_is c.args.buffer.now (costs_of c.args.costs.now) c.args.q c.luma_places-n.result c.luma_places-n.ensures U c.bad_residuals-2.ensures c.if-bad_residuals-2.false)) (sample_is c.args.buffer.now (costs_of c.args.costs.now) c.args.q c.luma_places-n.result c.luma_places-n.ensures «V» c.bad_residuals-3.ensures c.if-bad_residuals-3.true))
+returns-then-bad_residuals-3 c =
+    sym
+    (refused_past
+    (past
+    (past
+    (past
+    (past untested (sym c.costs_refused.ensures ∙ c.if-costs_refused.false))
+    (long _ _ _ c.luma_places-n.ensures c.if-buffer-v_end.false))
+    (sample_is c.args.buffer.now (costs_of c.args.costs.now) c.args.q _ c.luma_places-n.ensures Y
+    c.bad_residuals.ensures c.if-bad_residuals.false))
+    (sample_is c.args.buffer.now (costs_of c.args.costs.now) c.args.q _ c.luma_places-n.ensures U
+    c.bad_residuals-2.ensures c.if-bad_residuals-2.false))
+    (sample_is c.args.buffer.now (costs_of c.args.costs.now) c.args.q _ c.luma_places-n.ensures «V»
+    c.bad_residuals-3.ensures c.if-bad_residuals-3.true))
 
 pub returns : goal.returns
 unfolding buffer_faults requested cost_fault length_fault area
-returns c = sym (accepted_past (past (past (past (past (past untested (sym c.costs_refused.ensures ∙ c.if-costs_refused.false)) (long _ _ _ c.luma_places-n.ensures c.if-buffer-v_end.false)) (sample_is c.args.buffer.now (costs_of c.args.costs.now) c.args.q c.luma_places-n.result c.luma_places-n.ensures Y c.bad_residuals.ensures c.if-bad_residuals.false)) (sample_is c.args.buffer.now (costs_of c.args.costs.now) c.args.q c.luma_places-n.result c.luma_places-n.ensures U c.bad_residuals-2.ensures c.if-bad_residuals-2.false)) (sample_is c.args.buffer.now (costs_of c.args.costs.now) c.args.q c.luma_places-n.result c.luma_places-n.ensures «V» c.bad_residuals-3.ensures c.if-bad_residuals-3.false)))
+returns c =
+    sym
+    (accepted_past
+    (past
+    (past
+    (past
+    (past
+    (past untested (sym c.costs_refused.ensures ∙ c.if-costs_refused.false))
+    (long _ _ _ c.luma_places-n.ensures c.if-buffer-v_end.false))
+    (sample_is c.args.buffer.now (costs_of c.args.costs.now) c.args.q _ c.luma_places-n.ensures Y
+    c.bad_residuals.ensures c.if-bad_residuals.false))
+    (sample_is c.args.buffer.now (costs_of c.args.costs.now) c.args.q _ c.luma_places-n.ensures U
+    c.bad_residuals-2.ensures c.if-bad_residuals-2.false))
+    (sample_is c.args.buffer.now (costs_of c.args.costs.now) c.args.q _ c.luma_places-n.ensures «V»
+    c.bad_residuals-3.ensures c.if-bad_residuals-3.false)))

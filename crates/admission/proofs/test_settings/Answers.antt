@@ -19,28 +19,97 @@ returns-then-q-gt5 c l t = sym (refused_past untested (log2_high _ c.if-q-gt5.tr
 -- ---- what is run
 pub returns-then-bad_qp : goal.returns-then-bad_qp
 unfolding settings_faults requested runs quant_of
-returns-then-bad_qp c l t = sym (refused_past (past untested (log2_fine _ c.if-q-lt2.false c.if-q-gt5.false)) (sym c.bad_qp.ensures ∙ c.if-bad_qp.true))
+returns-then-bad_qp c l t =
+    sym
+    (refused_past
+    (past untested (log2_fine _ c.if-q-lt2.false c.if-q-gt5.false))
+    (sym c.bad_qp.ensures ∙ c.if-bad_qp.true))
 
 pub returns-then-bad_qp-2 : goal.returns-then-bad_qp-2
 unfolding settings_faults requested runs quant_of
-returns-then-bad_qp-2 c l t = sym (refused_past (past (past untested (log2_fine _ c.if-q-lt2.false c.if-q-gt5.false)) (sym c.bad_qp.ensures ∙ c.if-bad_qp.false)) (sym c.bad_qp-2.ensures ∙ c.if-bad_qp-2.true))
+returns-then-bad_qp-2 c l t =
+    sym
+    (refused_past
+    (past
+    (past untested (log2_fine _ c.if-q-lt2.false c.if-q-gt5.false))
+    (sym c.bad_qp.ensures ∙ c.if-bad_qp.false))
+    (sym c.bad_qp-2.ensures ∙ c.if-bad_qp-2.true))
 
 pub returns-then-bad_qp-3 : goal.returns-then-bad_qp-3
 unfolding settings_faults requested runs quant_of
-returns-then-bad_qp-3 c l t = sym (refused_past (past (past (past untested (log2_fine _ c.if-q-lt2.false c.if-q-gt5.false)) (sym c.bad_qp.ensures ∙ c.if-bad_qp.false)) (sym c.bad_qp-2.ensures ∙ c.if-bad_qp-2.false)) (sym c.bad_qp-3.ensures ∙ c.if-bad_qp-3.true))
+returns-then-bad_qp-3 c l t =
+    sym
+    (refused_past
+    (past
+    (past
+    (past untested (log2_fine _ c.if-q-lt2.false c.if-q-gt5.false))
+    (sym c.bad_qp.ensures ∙ c.if-bad_qp.false))
+    (sym c.bad_qp-2.ensures ∙ c.if-bad_qp-2.false))
+    (sym c.bad_qp-3.ensures ∙ c.if-bad_qp-3.true))
 
 pub returns-then-bad_lambda : goal.returns-then-bad_lambda
 unfolding settings_faults requested runs quant_of
-returns-then-bad_lambda c l t = sym (refused_past (past (past (past (past untested (log2_fine _ c.if-q-lt2.false c.if-q-gt5.false)) (sym c.bad_qp.ensures ∙ c.if-bad_qp.false)) (sym c.bad_qp-2.ensures ∙ c.if-bad_qp-2.false)) (sym c.bad_qp-3.ensures ∙ c.if-bad_qp-3.false)) (sym c.bad_lambda.ensures ∙ c.if-bad_lambda.true))
+returns-then-bad_lambda c l t =
+    sym
+    (refused_past
+    (past
+    (past
+    (past
+    (past untested (log2_fine _ c.if-q-lt2.false c.if-q-gt5.false))
+    (sym c.bad_qp.ensures ∙ c.if-bad_qp.false))
+    (sym c.bad_qp-2.ensures ∙ c.if-bad_qp-2.false))
+    (sym c.bad_qp-3.ensures ∙ c.if-bad_qp-3.false))
+    (sym c.bad_lambda.ensures ∙ c.if-bad_lambda.true))
 
 pub returns-then-bad_lambda-2 : goal.returns-then-bad_lambda-2
 unfolding settings_faults requested runs quant_of
-returns-then-bad_lambda-2 c l t = sym (refused_past (past (past (past (past (past untested (log2_fine _ c.if-q-lt2.false c.if-q-gt5.false)) (sym c.bad_qp.ensures ∙ c.if-bad_qp.false)) (sym c.bad_qp-2.ensures ∙ c.if-bad_qp-2.false)) (sym c.bad_qp-3.ensures ∙ c.if-bad_qp-3.false)) (sym c.bad_lambda.ensures ∙ c.if-bad_lambda.false)) (sym c.bad_lambda-2.ensures ∙ c.if-bad_lambda-2.true))
+returns-then-bad_lambda-2 c l t =
+    sym
+    (refused_past
+    (past
+    (past
+    (past
+    (past
+    (past untested (log2_fine _ c.if-q-lt2.false c.if-q-gt5.false))
+    (sym c.bad_qp.ensures ∙ c.if-bad_qp.false))
+    (sym c.bad_qp-2.ensures ∙ c.if-bad_qp-2.false))
+    (sym c.bad_qp-3.ensures ∙ c.if-bad_qp-3.false))
+    (sym c.bad_lambda.ensures ∙ c.if-bad_lambda.false))
+    (sym c.bad_lambda-2.ensures ∙ c.if-bad_lambda-2.true))
 
 pub returns-then-bad_lambda-3 : goal.returns-then-bad_lambda-3
 unfolding settings_faults requested runs quant_of
-returns-then-bad_lambda-3 c l t = sym (refused_past (past (past (past (past (past (past untested (log2_fine _ c.if-q-lt2.false c.if-q-gt5.false)) (sym c.bad_qp.ensures ∙ c.if-bad_qp.false)) (sym c.bad_qp-2.ensures ∙ c.if-bad_qp-2.false)) (sym c.bad_qp-3.ensures ∙ c.if-bad_qp-3.false)) (sym c.bad_lambda.ensures ∙ c.if-bad_lambda.false)) (sym c.bad_lambda-2.ensures ∙ c.if-bad_lambda-2.false)) (sym c.bad_lambda-3.ensures ∙ c.if-bad_lambda-3.true))
+returns-then-bad_lambda-3 c l t =
+    sym
+    (refused_past
+    (past
+    (past
+    (past
+    (past
+    (past
+    (past untested (log2_fine _ c.if-q-lt2.false c.if-q-gt5.false))
+    (sym c.bad_qp.ensures ∙ c.if-bad_qp.false))
+    (sym c.bad_qp-2.ensures ∙ c.if-bad_qp-2.false))
+    (sym c.bad_qp-3.ensures ∙ c.if-bad_qp-3.false))
+    (sym c.bad_lambda.ensures ∙ c.if-bad_lambda.false))
+    (sym c.bad_lambda-2.ensures ∙ c.if-bad_lambda-2.false))
+    (sym c.bad_lambda-3.ensures ∙ c.if-bad_lambda-3.true))
 
 pub returns : goal.returns
 unfolding settings_faults requested runs quant_of
-returns c l t = sym (accepted_past (past (past (past (past (past (past (past untested (log2_fine _ c.if-q-lt2.false c.if-q-gt5.false)) (sym c.bad_qp.ensures ∙ c.if-bad_qp.false)) (sym c.bad_qp-2.ensures ∙ c.if-bad_qp-2.false)) (sym c.bad_qp-3.ensures ∙ c.if-bad_qp-3.false)) (sym c.bad_lambda.ensures ∙ c.if-bad_lambda.false)) (sym c.bad_lambda-2.ensures ∙ c.if-bad_lambda-2.false)) (sym c.bad_lambda-3.ensures ∙ c.if-bad_lambda-3.false)))
+returns c l t =
+    sym
+    (accepted_past
+    (past
+    (past
+    (past
+    (past
+    (past
+    (past
+    (past untested (log2_fine _ c.if-q-lt2.false c.if-q-gt5.false))
+    (sym c.bad_qp.ensures ∙ c.if-bad_qp.false))
+    (sym c.bad_qp-2.ensures ∙ c.if-bad_qp-2.false))
+    (sym c.bad_qp-3.ensures ∙ c.if-bad_qp-3.false))
+    (sym c.bad_lambda.ensures ∙ c.if-bad_lambda.false))
+    (sym c.bad_lambda-2.ensures ∙ c.if-bad_lambda-2.false))
+    (sym c.bad_lambda-3.ensures ∙ c.if-bad_lambda-3.false)))
