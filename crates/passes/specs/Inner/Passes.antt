@@ -1,6 +1,6 @@
 -- What the functions of the search say to one another: least prices as code holds them, what is chosen for each place,
 -- and the block that is read off. The search itself is specs/Inner/Search.antt of `price`, one place of it `ahead`.
-use Rattle.std.specs.Prelude.{◌≡◌, true, false, cond, List, ℕ, zero, suc, ◌+◌, ◌-◌, ◌*◌, ◌^◌, ◌≤◌, ◌<◌, length, get_or, drop}
+use Rattle.std.specs.Prelude.{◌≡◌, true, false, cond, List, ℕ, suc, ◌+◌, ◌-◌, ◌*◌, ◌^◌, ◌≤◌, ◌<◌, length, get_or, drop}
 use Rattle.price.specs.Rule.{is_zero}
 use Rattle.price.specs.Price.{uncoded}
 use Rattle.price.specs.Inner.Search.{Least, none, some, ahead, taken, goes_on, read_off}
