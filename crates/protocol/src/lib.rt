@@ -84,6 +84,7 @@ fn answer_verb(
 }
 
 // In rooms for the most samples and for the longest list that a line can have.
+#[tactic(auto, using(crate::proofs::Retold::long_told))]
 fn answer_in(room: &mut [i16], list: &mut [u32], line: &[u8], out: &mut [u8; 65536]) -> usize
     requires { (length room.old ≡ 8192) × (length list.old ≡ 4096) }
     ensures { Written (answer_to line.now) out.old out.new result }

@@ -1,14 +1,9 @@
 -- `protocol::answer_in` meets its contract: the verb is the line's first word, and what is behind it is the request's.
 use mathlib.Core.Path.{sym, ap}
-use Rattle.requests.proofs.Asked.{too_long, verb_malformed, verb_read}
+use Rattle.requests.proofs.Asked.{verb_malformed, verb_read}
 use Rattle.protocol.specs.Answer.{answer_of, answer_to}
 use Rattle.protocol.proofs.Retold.{retold}
 use Rattle.protocol.proofs.answer_in.Goals as goal
-
-pub returns-then-line-gt65535 : goal.returns-then-line-gt65535
-unfolding answer_to
-returns-then-line-gt65535 c =
-    retold (ap answer_of (too_long c.args.line.now c.if-line-gt65535.true)) c.put_malformed.ensures
 
 pub returns-in_default : goal.returns-in_default
 unfolding answer_to
