@@ -57,8 +57,8 @@ pub quant_shown : (c : Quant) (r : ℕ) (answer : List ℕ) (block : List ℤ) �
 quant_shown c r answer block h = rw (h.result, h.written, h.left)
 
 pub three_shown : (s : SubBlock) (r : ℕ) (w : List ℕ) (buffer : List ℤ) → ThreeLeft s r w buffer
-    → shown r (get_or w 0 0) (get_or w 1 0 ∷ get_or w 4 0 ∷ get_or w 2 0 ∷ get_or w 5 0 ∷ get_or w 3 0 ∷ get_or w 6 0 ∷ []) none
-    buffer ≡ three_text s
+    → shown r (get_or w 0 0) (get_or w 1 0 ∷ get_or w 4 0 ∷ get_or w 2 0 ∷ get_or w 5 0 ∷ get_or w 3 0 ∷ get_or w 6 0 ∷ [])
+    none buffer ≡ three_text s
 three_shown s r w buffer h = rw (h.result, h.written, h.left)
 
 pub guarded_shown : (g : GuardedBlock) (r : ℕ) (w : List ℕ) (buffer : List ℤ) → GuardedLeft g r w buffer

@@ -42,8 +42,8 @@ trans_by f samples = trans.called samples (get_or f 0 0) (get_or f 1 0)
 -- COMPONENT LOG2 QP LAMBDA FLAGS, COSTS
 abbrev pub quant_by : List ℕ → List ℤ → Quant
 quant_by f samples =
-    quant_asked (component_by (get_or f 0 0)) samples (get_or f 1 0) (get_or f 2 0) (lambda_by (get_or f 3 0)) (get_or f 4 0)
-    (costs_from 5 f)
+    quant_asked (component_by (get_or f 0 0)) samples (get_or f 1 0) (get_or f 2 0) (lambda_by (get_or f 3 0))
+    (get_or f 4 0) (costs_from 5 f)
 
 -- LOG2 RUN, a QP and a LAMBDA each of Y, U and V, FLAGS, COSTS
 abbrev pub qps_by : List ℕ → List ℕ
@@ -70,7 +70,8 @@ allowed_by f = get_or f 9 0 ∷ get_or f 10 0 ∷ get_or f 11 0 ∷ get_or f 12 
 
 abbrev pub guarded_by : List ℕ → List ℤ → GuardedBlock
 guarded_by f samples =
-    guarded_asked samples (get_or f 0 0) (qps_by f) (lambdas_by f) (get_or f 1 0) (get_or f 8 0) (costs_from 15 f) (allowed_by f)
+    guarded_asked samples (get_or f 0 0) (qps_by f) (lambdas_by f) (get_or f 1 0) (get_or f 8 0)
+    (costs_from 15 f) (allowed_by f)
 
 -- LOG2 QP FLAGS RESIDUALS: so many of the samples are residuals, and those behind are levels
 abbrev pub measure_by : List ℕ → List ℤ → Measure
@@ -113,7 +114,8 @@ abbrev pub three_text : SubBlock → List ℕ
 three_text s =
     let w = three_written (sub_block_answer s) in
     shown (result_of (sub_block_answer s)) (get_or w 0 0)
-    (get_or w 1 0 ∷ get_or w 4 0 ∷ get_or w 2 0 ∷ get_or w 5 0 ∷ get_or w 3 0 ∷ get_or w 6 0 ∷ []) none (sub_block_buffer s)
+    (get_or w 1 0 ∷ get_or w 4 0 ∷ get_or w 2 0 ∷ get_or w 5 0 ∷ get_or w 3 0 ∷ get_or w 6 0 ∷ [])
+    none (sub_block_buffer s)
 
 -- the count and the price of Y, of U, of V, how much darker each gets, how much lighter
 abbrev pub guarded_numbers : List ℕ → List ℕ

@@ -50,7 +50,8 @@ module _ (limit : ℕ) where
   zero_led (b ∷ []) h e = absurd (let no : ⊥ = omega arith in no)
   zero_led (b ∷ c ∷ w) h e = rw (eq-eqb b 48 e) refl
 
-  pub begun : (w : List ℕ) → 0 < length w → (get_or w 0 0 ≡ 48 → length w ≤ 1) → read_from limit 0 w ≡ natural_up_to limit w
+  pub begun : (w : List ℕ) → 0 < length w → (get_or w 0 0 ≡ 48 → length w ≤ 1)
+      → read_from limit 0 w ≡ natural_up_to limit w
   unfolding natural_up_to natural value_of read_from
   begun [] h k = absurd (let no : ⊥ = omega arith in no)
   begun (b ∷ []) h k = refl

@@ -29,7 +29,8 @@ behind_minus (b ∷ w) h e =
     rw (eq-eqb b 45 e) (ap (λ (l : List ℕ). negative_of (natural_up_to 32768 l))
     (sym (take_all (length (b ∷ w) - 1) w (omega arith))))
 
-pub plain : (w : List ℕ) → (length w ≡ 0 → ⊥) → (get_or w 0 0 ≡ 45 → ⊥) → sample_of w ≡ positive_of (natural_up_to 32767 w)
+pub plain : (w : List ℕ) → (length w ≡ 0 → ⊥) → (get_or w 0 0 ≡ 45 → ⊥)
+    → sample_of w ≡ positive_of (natural_up_to 32767 w)
 unfolding sample_of
 plain [] h e = absurd (h refl)
 plain (b ∷ w) h e = rw (ne_eqb b 45 e) refl

@@ -213,7 +213,8 @@ unfolding sample_of
 sample_text [] z e = absurd (let no : ◌≡◌ {A = ℕ} 0 1 = cc in let none : ⊥ = omega arith in none)
 sample_text (b ∷ w) z e = go (eqb b 45) refl e
   where
-    go : (t : Bool) → eqb b 45 ≡ t → cond t (negative_of (natural_up_to 32768 w)) (positive_of (natural_up_to 32767 (b ∷ w)))
+    go : (t : Bool) → eqb b 45 ≡ t
+        → cond t (negative_of (natural_up_to 32768 w)) (positive_of (natural_up_to 32767 (b ∷ w)))
         ≡ samples.Is z
         → b ∷ w ≡ printed_sample z
     go true q p = ap (λ (c : ℕ). c ∷ w) (eqb-true b 45 q) ∙ minus_text w z (natural_up_to 32768 w) refl p

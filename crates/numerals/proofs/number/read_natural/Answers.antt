@@ -31,7 +31,10 @@ loop-i-init c =
       omega arith,
       omega arith,
       begun _ w (some w c.if-word-eq0.false) (λ e.
-          elim c.if-word-eq48.branch [ then-word-eq48+else-word-gt1 w ↦ omega arith | else-word-eq48 w ↦ absurd (w.if-word-eq48.false e) ]),
+          elim c.if-word-eq48.branch [
+            | then-word-eq48+else-word-gt1 w ↦ omega arith
+            | else-word-eq48 w ↦ absurd (w.if-word-eq48.false e)
+          ]),
     )
 
 pub returns-then-b-lt48 : goal.returns-then-b-lt48
