@@ -7,7 +7,7 @@ use mir.Syntax.{w16, w32}
 use mir.Val.{SFits, to_z, of_z}
 use mir.Facts.{to_z-of_z}
 use Rattle.integers.specs.Clip.{clipped}
-use Rattle.integers.proofs.Fit.{cast_fits, cast_is}
+use Rattle.integers.proofs.Fit.{cast_is}
 use Rattle.integers.proofs.Clip.{clip_below, clip_above, clip_between, clipped_fits}
 use Rattle.parts.proofs.clip.Goals as goal
 
@@ -33,19 +33,10 @@ returns-then-z-gt32767 c =
     let f = c.ranges.z in
     sym (clip_above z (tested under false z f c.if-z-ltminus32768.false) (tested over true z f c.if-z-gt32767.true))
 
-kept : (c : goal.Else-z-gt32767) → clipped c.args.z ≡ c.args.z
-kept c =
-    let z = c.args.z in
-    let f = c.ranges.z in
-    clip_between z (tested under false z f c.if-z-ltminus32768.false) (tested over false z f c.if-z-gt32767.false)
-
-pub overflow_cast-result : goal.overflow_cast-result
-overflow_cast-result c =
-    let z = c.args.z in
-    cast_fits w32 w16 z c.ranges.z (subst (λ (y : ℤ). SFits w16 y) (kept c) (clipped_fits z))
-
 pub returns : goal.returns
 returns c =
     let z = c.args.z in
-    cast_is w32 w16 z c.ranges.z (subst (λ (y : ℤ). SFits w16 y) (kept c) (clipped_fits z))
-    ∙ sym (kept c)
+    let f = c.ranges.z in
+    let kept : clipped z ≡ z =
+    clip_between z (tested under false z f c.if-z-ltminus32768.false) (tested over false z f c.if-z-gt32767.false) in
+    cast_is w32 w16 z f (subst (λ (y : ℤ). SFits w16 y) kept (clipped_fits z)) ∙ sym kept
