@@ -18,6 +18,9 @@ use refusals::{Component, Refusal, no_side};
 use rooms::code_levels;
 use scaling::scale::{Scale, rounded, scale_of, skip_threshold};
 
+// 7 LEVEL: no level is larger.
+const MOST_LEVEL: u64 = 32767;
+
 // A block that the quick skip clears costs what an empty block costs: D and its flag. Where every coefficient is 0
 // already, there is nothing to clear, and D is 0.
 fn skip_block(block: &mut [i16], g: Scale, top: u32, empty: u64) -> Coded
@@ -64,7 +67,7 @@ fn code_block(block: &mut [i16], costs: &[u64; 28], coding: Coding) -> QuantAnsw
         return QuantAnswer::Refused(Refusal::Sample, component);
     }
     let m = rounded(g, top);
-    if 32767 < m {
+    if MOST_LEVEL < m {
         return QuantAnswer::Refused(Refusal::Level, component);
     }
     if 2199023255552 < lambda * (m + 1) {

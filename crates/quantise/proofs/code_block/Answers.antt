@@ -245,9 +245,9 @@ returns-then-top-eq32768 c =
     (here (sample_here B t k c.requires true (c.largest-top.ensures.lowest ∙ eq-eqb _ 32768 c.if-top-eq32768.true)))) in
     record { answer = sym e.0; buffer = sym e.1 }
 
-pub returns-then-m-gt32767 : goal.returns-then-m-gt32767
+pub returns-then-m-gt-MOST_LEVEL : goal.returns-then-m-gt-MOST_LEVEL
 unfolding called level_fault
-returns-then-m-gt32767 c =
+returns-then-m-gt-MOST_LEVEL c =
     let B = c.args.block.now in
     let t = costs_of c.args.costs.now in
     let k = c.args.coding in
@@ -265,7 +265,7 @@ returns-then-m-gt32767 c =
     (here (level_here B t k c.requires walked true
     (ap (ltb 32767)
     (largest_is B t k c.requires g.result g.ensures walked top.result top.ensures m.result m.ensures)
-    ∙ lt-ltb 32767 _ c.if-m-gt32767.true)))) in
+    ∙ lt-ltb 32767 _ c.if-m-gt-MOST_LEVEL.true)))) in
     record { answer = sym e.0; buffer = sym e.1 }
 
 pub overflow_mul-lambda : goal.overflow_mul-lambda
@@ -275,7 +275,7 @@ overflow_mul-lambda c =
           omega (
             arith,
             mul-le-mul c.lambda_whole-lambda.ensures.greatest.within
-                (let h : c.rounded-m.result + 1 ≤ 32768 = omega (arith, c.if-m-gt32767.false) in h),
+                (let h : c.rounded-m.result + 1 ≤ 32768 = omega (arith, c.if-m-gt-MOST_LEVEL.false) in h),
           );
     }
 
@@ -297,7 +297,7 @@ returns-then-lambda-m-gt2199023255552 c =
     let e =
     refused_answer (called B t k)
     (past_3 B t k c.requires g.result g.ensures walked top.result top.ensures m.result m.ensures c.if-top-eq32768.false
-    c.if-m-gt32767.false
+    c.if-m-gt-MOST_LEVEL.false
     (here (price_here B t k c.requires walked true
     (ap (ltb (2 ^ 41))
     (weight_is B t k c.requires g.result g.ensures walked top.result top.ensures m.result m.ensures lambda.result
@@ -334,7 +334,7 @@ returns-then-d-gt1152921504606846976 c =
     let e =
     refused_answer (called B t k)
     (past_4 B t k c.requires g.result g.ensures walked top.result top.ensures m.result m.ensures lambda.result
-    lambda.ensures c.if-top-eq32768.false c.if-m-gt32767.false c.if-lambda-m-gt2199023255552.false
+    lambda.ensures c.if-top-eq32768.false c.if-m-gt-MOST_LEVEL.false c.if-lambda-m-gt2199023255552.false
     (here (distortion_here B t k c.requires walked true
     (lt-ltb (2 ^ 60) _
     (held_beyond _ _
@@ -381,7 +381,7 @@ code_levels-requires c =
         room = c.requires.long;
         fine =
             all_fine B top.result top.ensures.is small g.result g.ensures.sound p.result lambda.result m.result
-            m.ensures.0 c.if-m-gt32767.false
+            m.ensures.0 c.if-m-gt-MOST_LEVEL.false
             (omega (arith, c.if-lambda-m-gt2199023255552.false, add-one m.result)) each;
         few = all_few B top.result top.ensures.is small;
         is =
@@ -413,7 +413,7 @@ returns c =
     coded_answer B t k c.requires g.result g.ensures walked
     (but (sample_no B t k c.requires g.result g.ensures walked top.result top.ensures c.if-top-eq32768.false)
     (but (level_no B t k c.requires g.result g.ensures walked top.result top.ensures m.result m.ensures
-    c.if-m-gt32767.false)
+    c.if-m-gt-MOST_LEVEL.false)
     (but (price_no B t k c.requires g.result g.ensures walked top.result top.ensures m.result m.ensures lambda.result
     lambda.ensures c.if-lambda-m-gt2199023255552.false)
     (but (distortion_no B t k c.requires g.result g.ensures walked top.result top.ensures c.uncoded-d.result
