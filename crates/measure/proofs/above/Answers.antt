@@ -34,7 +34,8 @@ module _ (a b : ℤ) (fa : SFits w16 a) (fb : SFits w16 b) where
       simp to_z-of_z
 
   -- of the test's two outcomes
-  larger : lt_z (to_z w16 (of_z w16 b)) (to_z w16 (of_z w16 a)) ≡ true → to_z w32 (of_z w32 machine) ≡ pos (heights.above a b)
+  larger : lt_z (to_z w16 (of_z w16 b)) (to_z w16 (of_z w16 a)) ≡ true
+      → to_z w32 (of_z w32 machine) ≡ pos (heights.above a b)
   larger t = total_is ∙ difference_is a b (let p = fa in let q = fb in simp to_z-of_z at t)
 
   not_larger : lt_z (to_z w16 (of_z w16 b)) (to_z w16 (of_z w16 a)) ≡ false → heights.above a b ≡ 0

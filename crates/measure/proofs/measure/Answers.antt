@@ -14,7 +14,8 @@ use Rattle.measure.proofs.Front.{extremes_front}
 use Rattle.measure.proofs.measure.Goals as goal
 
 -- whether a list has as many places as the block, which the code counts as a · a
-counted : (r : List ℤ) (a l : ℕ) (b : Bool) → a ≡ 2 ^ l → ltb (length r) (a * a) ≡ b → ltb (length r) (2 ^ l * 2 ^ l) ≡ b
+counted : (r : List ℤ) (a l : ℕ) (b : Bool) → a ≡ 2 ^ l → ltb (length r) (a * a) ≡ b
+    → ltb (length r) (2 ^ l * 2 ^ l) ≡ b
 counted r a l b e = subst (λ (m : ℕ). ltb (length r) (m * m) ≡ b) e
 
 pub returns-then-no_side : goal.returns-then-no_side

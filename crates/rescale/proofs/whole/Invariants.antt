@@ -9,7 +9,8 @@ use Rattle.rescale.proofs.whole.Given as goal
 
 abbrev pub invariant-loop-i : goal.invariant-loop-i
 invariant-loop-i l =
-    (l.i ≤ length l.initial.block) × (length l.block ≡ length l.initial.block) × Replaced (stepped (pos l.times) l.half l.down) l.initial.block l.i l.block
+    (l.i ≤ length l.initial.block) × (length l.block ≡ length l.initial.block)
+    × Replaced (stepped (pos l.times) l.half l.down) l.initial.block l.i l.block
 
 abbrev pub decreases-loop-i : goal.decreases-loop-i
 decreases-loop-i l = length l.initial.block - l.i

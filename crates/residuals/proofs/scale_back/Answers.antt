@@ -17,7 +17,8 @@ area : (a l : ℕ) → a ≡ 2 ^ l → a * a ≡ 2 ^ l * 2 ^ l
 area a l e = ap (λ (m : ℕ). m * m) e
 
 -- whether the block has them all
-counted : (r : List ℤ) (a l : ℕ) (b : Bool) → a ≡ 2 ^ l → ltb (length r) (a * a) ≡ b → ltb (length r) (2 ^ l * 2 ^ l) ≡ b
+counted : (r : List ℤ) (a l : ℕ) (b : Bool) → a ≡ 2 ^ l → ltb (length r) (a * a) ≡ b
+    → ltb (length r) (2 ^ l * 2 ^ l) ≡ b
 counted r a l b e = subst (λ (m : ℕ). ltb (length r) m ≡ b) (area a l e)
 
 pub returns-then-no_side : goal.returns-then-no_side

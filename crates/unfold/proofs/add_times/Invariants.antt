@@ -9,7 +9,8 @@ use Rattle.unfold.proofs.add_times.Given as goal
 
 abbrev pub invariant-loop-k : goal.invariant-loop-k
 invariant-loop-k l =
-    (l.k ≤ length l.initial.b) × (length l.b ≡ length l.initial.b) × Filled (pos 0) l.b (λ i. at l.initial.b i +ℤ at l.t i *ℤ l.v) l.k
+    (l.k ≤ length l.initial.b) × (length l.b ≡ length l.initial.b)
+    × Filled (pos 0) l.b (λ i. at l.initial.b i +ℤ at l.t i *ℤ l.v) l.k
     × ((i : ℕ) → l.k ≤ i → at l.b i ≡ at l.initial.b i)
 
 abbrev pub decreases-loop-k : goal.decreases-loop-k

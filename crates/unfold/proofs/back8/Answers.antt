@@ -30,14 +30,14 @@ pub spread-requires-clause-by_index : goal.spread-requires-clause-by_index
 spread-requires-clause-by_index c = λ n hn.
     spread_asks 2 (omega arith) c.args.x.now c.part.new.e c.part.new.o c.back4.new.row c.odd_half.new.b
     (omega arith) c.part.ensures (omega arith) c.back4.ensures
-    (odd_given c.args.t4.now c.part.new.e c.part.new.o c.odd_half.new.b c.args.x.now c.requires.2 (omega arith) (omega arith)
-    c.part.ensures (λ k h. c.odd_half.ensures k (omega arith)))
+    (odd_given c.args.t4.now c.part.new.e c.part.new.o c.odd_half.new.b c.args.x.now c.requires.2 (omega arith)
+    (omega arith) c.part.ensures (λ k h. c.odd_half.ensures k (omega arith)))
     n (omega arith)
 
 pub returns : goal.returns
 returns c =
     level_back 2 (omega arith) c.args.x.now c.part.new.e c.part.new.o c.back4.new.row c.odd_half.new.b
     (omega arith) c.part.ensures (omega arith) c.back4.ensures
-    (odd_given c.args.t4.now c.part.new.e c.part.new.o c.odd_half.new.b c.args.x.now c.requires.2 (omega arith) (omega arith)
-    c.part.ensures (λ k h. c.odd_half.ensures k (omega arith)))
+    (odd_given c.args.t4.now c.part.new.e c.part.new.o c.odd_half.new.b c.args.x.now c.requires.2 (omega arith)
+    (omega arith) c.part.ensures (λ k h. c.odd_half.ensures k (omega arith)))
     _ c.spread.ensures

@@ -45,7 +45,9 @@ overflow_mul-s c =
     let q = at c.args.o.now l.k in
     let fp : SFits w16 p = search rules in
     let fq : SFits w16 q = search rules in
-    product_fits (to_z w32 l.s-bits) p q fp fq (room (to_z w32 l.s-bits) l.k p q fq (c.requires.by_index l.k (omega arith)) (omega arith) l.invariant.2)
+    let small = c.requires.by_index l.k (omega arith) in
+    let s = to_z w32 l.s-bits in
+    product_fits s p q fp fq (room s l.k p q fq small (omega arith) l.invariant.2)
 
 pub overflow_add-s : goal.overflow_add-s
 overflow_add-s c =
@@ -54,7 +56,9 @@ overflow_add-s c =
     let q = at c.args.o.now l.k in
     let fp : SFits w16 p = search rules in
     let fq : SFits w16 q = search rules in
-    total_fits (to_z w32 l.s-bits) p q fp fq (room (to_z w32 l.s-bits) l.k p q fq (c.requires.by_index l.k (omega arith)) (omega arith) l.invariant.2)
+    let small = c.requires.by_index l.k (omega arith) in
+    let s = to_z w32 l.s-bits in
+    total_fits s p q fp fq (room s l.k p q fq small (omega arith) l.invariant.2)
 
 pub loop-k-preserved : goal.loop-k-preserved
 loop-k-preserved c =
@@ -66,10 +70,11 @@ loop-k-preserved c =
     let fp : SFits w16 p = search rules in
     let fq : SFits w16 q = search rules in
     let small = c.requires.by_index l.k (omega arith) in
-    let is = total_is (to_z w32 l.s-bits) p q fp fq (room (to_z w32 l.s-bits) l.k p q fq small (omega arith) l.invariant.2) in (
+    let s = to_z w32 l.s-bits in
+    let is = total_is s p q fp fq (room s l.k p q fq small (omega arith) l.invariant.2) in (
       omega arith,
       is ∙ sum_more on_ℤ l.k (λ i. at t i *ℤ at o i) l.invariant.1,
-      omega (arith, ap nat_abs is, total_small (to_z w32 l.s-bits) l.k p q fq small (omega arith) l.invariant.2),
+      omega (arith, ap nat_abs is, total_small s l.k p q fq small (omega arith) l.invariant.2),
     )
 
 pub returns : goal.returns

@@ -30,10 +30,11 @@ loop-k-preserved c =
           (to_z-of_z p) l.invariant.3,
       filled_more (pos 0) l.o (λ i. at x (2 * i + 1)) l.k _ (omega arith)
           (to_z-of_z q) l.invariant.4,
-      below_more (λ (i : ℕ). (nat_abs (at x (2 * i)) ≤ 32768) × (nat_abs (at x (2 * i + 1)) ≤ 32768)) l.k l.invariant.5 (
-        magnitude_of (at x (2 * l.k)) p,
-        magnitude_of (at x (2 * l.k + 1)) q,
-      ),
+      below_more (λ (i : ℕ). (nat_abs (at x (2 * i)) ≤ 32768) × (nat_abs (at x (2 * i + 1)) ≤ 32768)) l.k
+          l.invariant.5 (
+            magnitude_of (at x (2 * l.k)) p,
+            magnitude_of (at x (2 * l.k + 1)) q,
+          ),
     )
 
 pub returns : goal.returns

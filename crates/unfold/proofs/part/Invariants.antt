@@ -9,7 +9,8 @@ use Rattle.unfold.proofs.part.Given as goal
 
 abbrev pub invariant-loop-k : goal.invariant-loop-k
 invariant-loop-k l =
-    (l.k ≤ length l.initial.e) × (length l.e ≡ length l.initial.e) × (length l.o ≡ length l.initial.o) × Filled (pos 0) l.e (λ i. at l.x (2 * i)) l.k
+    (l.k ≤ length l.initial.e) × (length l.e ≡ length l.initial.e) × (length l.o ≡ length l.initial.o)
+    × Filled (pos 0) l.e (λ i. at l.x (2 * i)) l.k
     × Filled (pos 0) l.o (λ i. at l.x (2 * i + 1)) l.k
     × ((i : ℕ) → i < l.k → (nat_abs (at l.x (2 * i)) ≤ 32768) × (nat_abs (at l.x (2 * i + 1)) ≤ 32768))
 

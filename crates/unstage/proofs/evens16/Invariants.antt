@@ -10,7 +10,8 @@ use Rattle.unstage.proofs.evens16.Given as goal
 
 abbrev pub invariant-loop-j : goal.invariant-loop-j
 invariant-loop-j l =
-    (l.j ≤ l.lines) × (length l.dst ≡ length l.initial.dst) × Lines (λ j n. value_at matrix 8 (λ k. at l.src (j * 16 + 2 * k)) n) most_value 8 l.lines l.dst l.j
+    (l.j ≤ l.lines) × (length l.dst ≡ length l.initial.dst)
+    × Lines (λ j n. value_at matrix 8 (λ k. at l.src (j * 16 + 2 * k)) n) most_value 8 l.lines l.dst l.j
 
 abbrev pub decreases-loop-j : goal.decreases-loop-j
 decreases-loop-j l = l.lines - l.j

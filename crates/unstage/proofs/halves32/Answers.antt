@@ -13,7 +13,8 @@ use Rattle.unstage.proofs.Halves.{lower_long, both_long, unfold_asks, unfolded_v
 use Rattle.unstage.proofs.halves32.Goals as goal
 
 -- the last first, and of these the last first again
-last_first : (lines : ℕ) (src es os : List ℤ) → length es ≡ lines * 16 → Parted src es os → (j n : ℕ) → j < lines → n < 16
+last_first : (lines : ℕ) (src es os : List ℤ) → length es ≡ lines * 16 → Parted src es os
+    → (j n : ℕ) → j < lines → n < 16
     → odd_at matrix 16 (λ k. at os (j * 16 + k)) (15 - (15 - n))
     ≡ odd_at matrix 16 (λ k. at src (j * 32 + (2 * k + 1))) n
 last_first lines src es os le parted j n hj hn =

@@ -47,14 +47,16 @@ loop-j-preserved c =
     λ k hk. odd (7 - k) (omega arith) ∙ odd_line 8 a.src.now l.j e o (omega arith) c.part.ensures (7 - k) in (
       omega arith,
       omega arith,
-      lines_more (given a.src.now) most_odd 8 a.lines l.dst c.store_up.new.dst (λ k. at b (7 - k)) l.j (omega arith) same
+      lines_more (given a.src.now) most_odd 8 a.lines l.dst c.store_up.new.dst (λ k. at b (7 - k)) l.j (omega arith)
+          same
           (λ k hk.
           omega (
             arith,
             ap nat_abs (odd (7 - k) (omega arith)),
             odd_bound 3 (omega arith) (at o) (λ i hi. (c.part.ensures.small i (omega arith)).1) (7 - k) (omega arith),
           ))
-          (subst (λ (m : ℕ). Placed a.lines l.j m (λ k. at b (m - 1 - k)) l.dst c.store_up.new.dst) lb c.store_up.ensures)
+          (subst (λ (m : ℕ). Placed a.lines l.j m (λ k. at b (m - 1 - k)) l.dst c.store_up.new.dst) lb
+          c.store_up.ensures)
           l.invariant.2,
       small_more 8 a.src.now l.j e o (omega arith) c.part.ensures l.invariant.3,
     )

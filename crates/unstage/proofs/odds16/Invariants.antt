@@ -10,7 +10,9 @@ use Rattle.unstage.proofs.odds16.Given as goal
 
 abbrev pub invariant-loop-j : goal.invariant-loop-j
 invariant-loop-j l =
-    (l.j ≤ l.lines) × (length l.dst ≡ length l.initial.dst) × Lines (λ j n. odd_at matrix 8 (λ k. at l.src (j * 16 + (2 * k + 1))) (7 - n)) most_odd 8 l.lines l.dst l.j × Small 16 l.src l.j
+    (l.j ≤ l.lines) × (length l.dst ≡ length l.initial.dst)
+    × Lines (λ j n. odd_at matrix 8 (λ k. at l.src (j * 16 + (2 * k + 1))) (7 - n)) most_odd 8 l.lines l.dst l.j
+    × Small 16 l.src l.j
 
 abbrev pub decreases-loop-j : goal.decreases-loop-j
 decreases-loop-j l = l.lines - l.j

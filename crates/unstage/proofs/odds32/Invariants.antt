@@ -10,7 +10,8 @@ use Rattle.unstage.proofs.odds32.Given as goal
 
 abbrev pub invariant-loop-j : goal.invariant-loop-j
 invariant-loop-j l =
-    (l.j ≤ l.lines) × (length l.dst ≡ length l.initial.dst) × Lines (λ j n. odd_at matrix 16 (λ k. at l.os (j * 16 + k)) (16 - 1 - n)) most_odd 16 l.lines l.dst l.j
+    (l.j ≤ l.lines) × (length l.dst ≡ length l.initial.dst)
+    × Lines (λ j n. odd_at matrix 16 (λ k. at l.os (j * 16 + k)) (16 - 1 - n)) most_odd 16 l.lines l.dst l.j
 
 abbrev pub decreases-loop-j : goal.decreases-loop-j
 decreases-loop-j l = l.lines - l.j

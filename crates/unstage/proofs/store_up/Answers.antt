@@ -11,7 +11,8 @@ pub loop-k-preserved : goal.loop-k-preserved
 loop-k-preserved c =
     let l = c.loop-k in
     let a = c.args in
-    let inside = place_below a.width a.c l.k (length a.b.now) (length a.dst.now) c.requires.0 (omega arith) c.requires.1 in (
+    let inside =
+    place_below a.width a.c l.k (length a.b.now) (length a.dst.now) c.requires.0 (omega arith) c.requires.1 in (
       omega arith,
       simp length-set l.invariant.1,
       placed_more a.width a.c l.k (λ k. at a.b.now (length a.b.now - 1 - k)) a.dst.now l.dst _ c.requires.0

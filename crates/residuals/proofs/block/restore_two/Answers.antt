@@ -22,7 +22,8 @@ held f z p q h e fp fq = to_z-of_z {w = w32} (fits_within z 65536 h (lit< tt)) �
 stored : (f : ℤ → ℤ → ℤ) (r p q x y : ℤ) → r ≡ settled_to (f p q) → p ≡ x → q ≡ y
     → to_z w16 (of_z w16 r) ≡ settled_to (f x y)
 stored f r p q x y e ep eq =
-    ap (λ (v : ℤ). to_z w16 (of_z w16 v)) (e ∙ ap (λ (z : ℤ). settled_to (f z q)) ep ∙ ap (λ (z : ℤ). settled_to (f x z)) eq)
+    ap (λ (v : ℤ). to_z w16 (of_z w16 v))
+    (e ∙ ap (λ (z : ℤ). settled_to (f z q)) ep ∙ ap (λ (z : ℤ). settled_to (f x z)) eq)
     ∙ to_z-of_z (clipped_fits _)
 
 pub returns : goal.returns
