@@ -10,7 +10,7 @@ use Rattle.refusals.specs.declared.Refusal.{Refusal}
 use Rattle.refusals.specs.declared.Component.{Component}
 use Rattle.refusals.specs.declared.Component.TheVariants.{Y, U, «V»}
 use Rattle.refusals.specs.Numbers.{number_of, component_of}
-use Rattle.refusals.specs.Faults.{accepted, passed, refused, verdict}
+use Rattle.refusals.specs.Faults.{passed, refused, verdict}
 use Rattle.price.specs.declared.Costs.{Costs}
 use Rattle.coding.specs.declared.Coded.{Coded}
 use Rattle.components.specs.declared.Request.{Request}
