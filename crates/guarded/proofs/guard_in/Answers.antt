@@ -29,6 +29,22 @@ guard_parts-answer-requires c =
       room_value = (c.copy.ensures, r.wide);
     }
 
+-- one was refused: the buffer is as it was
+pub returns-in_default-clause-answer : goal.returns-in_default-clause-answer
+returns-in_default-clause-answer c =
+    let a = c.args in
+    let r = c.requires in
+    finished_answer a.buffer.now (costs_of a.costs.now) a.q a.h a.n r.sizes r.passed _ _ c.guard_parts-answer.result
+    c.copy.ensures c.guard_parts-answer.ensures
+
+pub returns-in_default-clause-buffer : goal.returns-in_default-clause-buffer
+returns-in_default-clause-buffer c =
+    let a = c.args in
+    let r = c.requires in
+    sym (finished_refused a.buffer.now (costs_of a.costs.now) a.q a.h a.n r.sizes r.passed _ _
+    c.guard_parts-answer.result c.copy.ensures c.guard_parts-answer.ensures c.in_default.is)
+
+-- all three passed: the room is written back
 pub returns-in-Coded-clause-answer : goal.returns-in-Coded-clause-answer
 returns-in-Coded-clause-answer c =
     let a = c.args in
@@ -43,17 +59,3 @@ returns-in-Coded-clause-buffer c =
     c.write_back.ensures
     ∙ sym (finished_coded a.buffer.now (costs_of a.costs.now) a.q a.h a.n r.sizes r.passed _ _
     c.guard_parts-answer.result c.copy.ensures c.guard_parts-answer.ensures c.in-Coded.is)
-
-pub returns-in_default-clause-answer : goal.returns-in_default-clause-answer
-returns-in_default-clause-answer c =
-    let a = c.args in
-    let r = c.requires in
-    finished_answer a.buffer.now (costs_of a.costs.now) a.q a.h a.n r.sizes r.passed _ _ c.guard_parts-answer.result
-    c.copy.ensures c.guard_parts-answer.ensures
-
-pub returns-in_default-clause-buffer : goal.returns-in_default-clause-buffer
-returns-in_default-clause-buffer c =
-    let a = c.args in
-    let r = c.requires in
-    sym (finished_refused a.buffer.now (costs_of a.costs.now) a.q a.h a.n r.sizes r.passed _ _
-    c.guard_parts-answer.result c.copy.ensures c.guard_parts-answer.ensures c.in_default.is)
