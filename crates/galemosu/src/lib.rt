@@ -20,19 +20,19 @@ use wire::{
 
 // Which surface this is: 10000 times the first number of the version, 100 times the second, and the third. The header
 // and the host crate have the same number.
-pub extern "C" fn galemosu_version() -> u32
+pub fn galemosu_version() -> u32
     ensures { result ≡ 600 }
 {
     600
 }
 
-pub extern "C" fn galemosu_transform(block: &mut [i16], log2_w: usize, log2_h: usize) -> u32
+pub fn galemosu_transform(block: &mut [i16], log2_w: usize, log2_h: usize) -> u32
     ensures { TransLeft (called block.old log2_w log2_h) result block.new }
 {
     transform(block, log2_w, log2_h)
 }
 
-pub extern "C" fn galemosu_quantise_y(
+pub fn galemosu_quantise_y(
     block: &mut [i16],
     log2_side: usize,
     qp: u32,
@@ -56,7 +56,7 @@ pub extern "C" fn galemosu_quantise_y(
     )
 }
 
-pub extern "C" fn galemosu_quantise_u(
+pub fn galemosu_quantise_u(
     block: &mut [i16],
     log2_side: usize,
     qp: u32,
@@ -80,7 +80,7 @@ pub extern "C" fn galemosu_quantise_u(
     )
 }
 
-pub extern "C" fn galemosu_quantise_v(
+pub fn galemosu_quantise_v(
     block: &mut [i16],
     log2_side: usize,
     qp: u32,
@@ -104,7 +104,7 @@ pub extern "C" fn galemosu_quantise_v(
     )
 }
 
-pub extern "C" fn galemosu_sub_block(
+pub fn galemosu_sub_block(
     buffer: &mut [i16],
     log2_luma: usize,
     qp: &[u32; 3],
@@ -121,19 +121,19 @@ pub extern "C" fn galemosu_sub_block(
     sub_block(buffer, log2_luma, qp, lambda, run, flags, costs, answer)
 }
 
-pub extern "C" fn galemosu_scale_back(block: &mut [i16], log2_side: usize, qp: u32) -> u32
+pub fn galemosu_scale_back(block: &mut [i16], log2_side: usize, qp: u32) -> u32
     ensures { ScaleLeft (levels_lent block.old log2_side qp) result block.new }
 {
     scale_back(block, log2_side, qp)
 }
 
-pub extern "C" fn galemosu_inverse(block: &mut [i16], log2_w: usize, log2_h: usize) -> u32
+pub fn galemosu_inverse(block: &mut [i16], log2_w: usize, log2_h: usize) -> u32
     ensures { InverseLeft (coefficients_lent block.old log2_w log2_h) result block.new }
 {
     inverse(block, log2_w, log2_h)
 }
 
-pub extern "C" fn galemosu_guarded_sub_block(
+pub fn galemosu_guarded_sub_block(
     buffer: &mut [i16],
     log2_luma: usize,
     qp: &[u32; 3],
@@ -154,7 +154,7 @@ pub extern "C" fn galemosu_guarded_sub_block(
 }
 
 // No bit of the flags means anything.
-pub extern "C" fn galemosu_measure(
+pub fn galemosu_measure(
     residuals: &[i16],
     levels: &[i16],
     log2_side: usize,
@@ -168,7 +168,7 @@ pub extern "C" fn galemosu_measure(
     measure(residuals, levels, log2_side, qp, answer)
 }
 
-pub extern "C" fn galemosu_write_symbols(
+pub fn galemosu_write_symbols(
     block: &[i16],
     log2_side: usize,
     list: &mut [u32],
@@ -180,7 +180,7 @@ pub extern "C" fn galemosu_write_symbols(
     write_symbols(block, log2_side, list, answer)
 }
 
-pub extern "C" fn galemosu_read_symbols(list: &[u32], block: &mut [i16], log2_side: usize) -> u32
+pub fn galemosu_read_symbols(list: &[u32], block: &mut [i16], log2_side: usize) -> u32
     ensures { ReadLeft (reading list.now block.old log2_side) result block.new }
 {
     read_symbols(list, block, log2_side)
