@@ -15,11 +15,10 @@ use Rattle.replies.specs.Reply.{reply_text}
 use Rattle.refusals.specs.Faults.{Outcome}
 use Rattle.runs.specs.Call.{Write}
 use Rattle.coding.specs.Block.{Quant}
-use Rattle.coding.specs.Call.{quant_answer, quant_buffer}
-use Rattle.components.specs.Call.{SubBlock, sub_block_answer, sub_block_buffer}
-use Rattle.heights.specs.Call.{Measure, measure_answer}
-use Rattle.guarding.specs.Call.{GuardedBlock, guarded_answer, guarded_buffer}
-use Rattle.surface.specs.Surface.{result_of, VerdictLeft, QuantLeft, ThreeLeft, GuardedLeft, MeasureLeft, WriteLeft}
+use Rattle.components.specs.Call.{SubBlock}
+use Rattle.heights.specs.Call.{Measure}
+use Rattle.guarding.specs.Call.{GuardedBlock}
+use Rattle.surface.specs.Surface.{VerdictLeft, QuantLeft, ThreeLeft, GuardedLeft, MeasureLeft, WriteLeft}
 use Rattle.calls.specs.Calls.{shown, verdict_text, quant_text, three_text, guarded_numbers, guarded_text, measure_text}
 use Rattle.calls.specs.Calls.{write_text}
 use Rattle.calls.specs.Inner.Replied.{zeros, reply_by, Replied}

@@ -1,6 +1,6 @@
 -- What a request is answered by: the call that its fields ask for, made by the numbers that cross to C (`surface`), and
 -- the answer line that shows what the call left: its result, its answer, its list, if it has one, and its buffer.
-use Rattle.std.specs.Prelude.{true, false, cond, List, [], ◌∷◌, ℕ, ◌+◌, eqb, Float, ℤ, get_or, take, drop}
+use Rattle.std.specs.Prelude.{true, false, cond, List, [], ◌∷◌, ℕ, eqb, Float, ℤ, get_or, take, drop}
 use Rattle.std.proofs.Math.Option.{Option, none, some}
 use Rattle.std.specs.Float.{binary64}
 use Rattle.std.specs.Float.Ieee.{of_bits}
