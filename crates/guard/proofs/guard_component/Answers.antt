@@ -19,7 +19,8 @@ slice_bounds-guard-end c =
       arith,
       c.code_component-answer.auto.part,
       c.requires.part_value.1,
-      small a.component (costs_of a.costs.now) a.q a.h a.part.now c.requires.ready (sym c.is_run.ensures ∙ c.if-is_run.true),
+      small a.component (costs_of a.costs.now) a.q a.h a.part.now c.requires.ready
+          (sym c.is_run.ensures ∙ c.if-is_run.true),
     )
 
 pub guard-requires-clause-guardable : goal.guard-requires-clause-guardable
