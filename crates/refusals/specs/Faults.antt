@@ -1,9 +1,8 @@
 -- How a call is refused. A call has a list of faults, in the order in which they are tested; each is a statement about
 -- the call's inputs by itself. The call is refused with the first that holds, and accepted when none does.
-use Rattle.std.specs.Prelude.{Bool, not, cond, ◌&&◌, List, [], ◌∷◌, ℕ, leb}
+use Rattle.std.specs.Prelude.{Bool, not, cond, ◌&&◌, List, [], ◌∷◌, ℕ, leb, Result, Ok, Err}
 use Rattle.refusals.specs.declared.Refusal.{Refusal}
-use Rattle.refusals.specs.declared.Verdict.{Verdict}
-use Rattle.refusals.specs.declared.Verdict.TheVariants.{Accepted, Refused}
+use Rattle.refusals.specs.declared.Refused.{Refused}
 use Rattle.refusals.specs.declared.Component.{Component}
 use Rattle.refusals.specs.declared.Component.TheVariants.{Y}
 use Rattle.refusals.specs.Numbers.{number_of, component_of}
@@ -32,10 +31,23 @@ verdict [] i = passed
 verdict (f ∷ fs) i =
     let rest = verdict fs i in cond (f.holds i) (refused (number_of f.refusal) (component_of (f.component i))) rest
 
--- what code says of such a call, by the paper's numbers
-abbrev pub verdict_outcome : Verdict → Outcome Unit
-verdict_outcome Accepted = passed
-verdict_outcome (Refused why) = refused (number_of why) 0
+-- a refusal of a call as a whole
+abbrev pub of_whole : Refusal → Refused
+of_whole why = record { why = why; component = Y }
+
+-- what code says of a call over components, by the paper's numbers; `told` has what it answers as the paper has it
+abbrev pub outcome_by : {T A : Type 0} → (T → A) → Result T Refused → Outcome A
+outcome_by told (Ok answer) = accepted (told answer)
+outcome_by told (Err r) = refused (number_of r.why) (component_of r.component)
+
+-- what code says of a call that knows no components
+abbrev pub whole_outcome_by : {T A : Type 0} → (T → A) → Result T Refusal → Outcome A
+whole_outcome_by told (Ok answer) = accepted (told answer)
+whole_outcome_by told (Err why) = refused (number_of why) 0
+
+-- and of one that answers only whether it was accepted
+abbrev pub verdict_outcome : Result Unit Refusal → Outcome Unit
+verdict_outcome = whole_outcome_by (λ u. u)
 
 -- with that verdict the answer a
 abbrev pub answering : {A : Type 0} → Outcome Unit → A → Outcome A

@@ -1,3 +1,4 @@
 pub mod Sides
 pub mod Numbers
 pub mod Faults
+pub mod Three

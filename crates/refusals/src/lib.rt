@@ -1,14 +1,15 @@
-// The refusals and the three components, by name: no other refusal and no fourth component can be named. specs/ has the
-// paper's number for each, what comes of a call, and how its refusal comes from the list of its faults: it is the first
-// that holds.
+// The refusals and the three components, by name: no other refusal and no fourth component can be named. What a call
+// says is a Result with one of them. specs/ has the paper's number for each, what comes of a call, and how its refusal
+// comes from the list of its faults: it is the first that holds.
 #![tactic(auto)]
 
 ghost use Rattle.std.specs.Prelude.{◌≡◌, ◌^◌, ◌≤◌};
 ghost use Rattle.refusals.specs.Numbers.{number_of, component_of};
+ghost use Rattle.refusals.specs.Three.{part_of};
 ghost use Rattle.refusals.specs.Sides.{most_log2};
-ghost use Rattle.refusals.specs.Faults.{outside};
+ghost use Rattle.refusals.specs.Faults.{outside, of_whole};
 
-#[derive(Drop)]
+#[derive(Clone, Copy)]
 pub enum Refusal {
     Side,
     Qp,
@@ -31,40 +32,77 @@ pub enum Component {
     V,
 }
 
-// What a call says that answers only whether it was accepted; a fault of it belongs to no component.
-#[derive(Drop)]
-pub enum Verdict {
-    Accepted,
-    Refused(Refusal),
+// Why a call over components is refused, and for which of them.
+#[derive(Clone, Copy)]
+pub struct Refused {
+    pub why: Refusal,
+    pub component: Component,
 }
 
-// The paper's number of a refusal, for those who know no names; and of a component.
-pub fn number(why: Refusal) -> u32
-    ensures { result ≡ number_of why }
-{
-    match why {
-        Refusal::Side => 1,
-        Refusal::Qp => 2,
-        Refusal::Lambda => 3,
-        Refusal::Cost => 4,
-        Refusal::Length => 5,
-        Refusal::Sample => 6,
-        Refusal::Level => 7,
-        Refusal::Price => 8,
-        Refusal::Distortion => 9,
-        Refusal::Room => 10,
-        Refusal::Symbol => 11,
-        Refusal::Height => 15,
+// A value for each component.
+#[derive(Clone, Copy)]
+pub struct Three<T> {
+    pub y: T,
+    pub u: T,
+    pub v: T,
+}
+
+// What is wrong with the call as a whole belongs to no component, and counts as Y's.
+impl From<Refusal> for Refused {
+    ghost from_gives = { λ why refused. refused ≡ of_whole why };
+
+    fn from(why: Refusal) -> Refused {
+        Refused {
+            why,
+            component: Component::Y,
+        }
     }
 }
 
-pub fn component_number(component: Component) -> u32
-    ensures { result ≡ component_of component }
-{
-    match component {
-        Component::Y => 0,
-        Component::U => 1,
-        Component::V => 2,
+// The paper's number of a refusal, for those who know no names.
+impl From<Refusal> for u32 {
+    ghost from_gives = { λ why number. number ≡ number_of why };
+
+    fn from(why: Refusal) -> u32 {
+        match why {
+            Refusal::Side => 1,
+            Refusal::Qp => 2,
+            Refusal::Lambda => 3,
+            Refusal::Cost => 4,
+            Refusal::Length => 5,
+            Refusal::Sample => 6,
+            Refusal::Level => 7,
+            Refusal::Price => 8,
+            Refusal::Distortion => 9,
+            Refusal::Room => 10,
+            Refusal::Symbol => 11,
+            Refusal::Height => 15,
+        }
+    }
+}
+
+// And of a component.
+impl From<Component> for u32 {
+    ghost from_gives = { λ component number. number ≡ component_of component };
+
+    fn from(component: Component) -> u32 {
+        match component {
+            Component::Y => 0,
+            Component::U => 1,
+            Component::V => 2,
+        }
+    }
+}
+
+impl<T: Copy> Three<T> {
+    pub fn of(self, component: Component) -> T
+        ensures { result ≡ part_of component self }
+    {
+        match component {
+            Component::Y => self.y,
+            Component::U => self.u,
+            Component::V => self.v,
+        }
     }
 }
 
@@ -72,10 +110,7 @@ pub fn component_number(component: Component) -> u32
 pub fn no_side(log2: usize) -> bool
     ensures { result ≡ outside 1 most_log2 log2 }
 {
-    if log2 < 1 {
-        return true;
-    }
-    5 < log2
+    log2 < 1 || 5 < log2
 }
 
 // The side of a log2 side. By cases, so that the compiler knows how large it can be.
@@ -83,17 +118,11 @@ pub fn side(log2: usize) -> usize
     requires { (1 ≤ log2) × (log2 ≤ most_log2) }
     ensures { (result ≡ 2 ^ log2) × (result ≤ 32) }
 {
-    if log2 == 1 {
-        return 2;
+    match log2 {
+        1 => 2,
+        2 => 4,
+        3 => 8,
+        4 => 16,
+        _ => 32,
     }
-    if log2 == 2 {
-        return 4;
-    }
-    if log2 == 3 {
-        return 8;
-    }
-    if log2 == 4 {
-        return 16;
-    }
-    32
 }
