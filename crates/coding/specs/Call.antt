@@ -1,18 +1,17 @@
 -- `quant_nnz`: its faults in order, its answer, and what its buffer then holds, as functions of all its inputs.
-use Rattle.std.specs.Prelude.{not, ◌&&◌, ◌||◌, List, [], ◌∷◌, ℕ, suc, ◌*◌, ◌^◌, ltb, length, take, ℤ, negsuc}
+use Rattle.std.specs.Prelude.{not, ◌&&◌, ◌||◌, List, [], ◌∷◌, ℕ, suc, ◌*◌, ◌^◌, ltb, length, take, ℤ, negsuc, Result}
 use Rattle.integers.specs.Tests.{some, eq_ℤ}
+use Rattle.refusals.specs.declared.Refused.{Refused}
 use Rattle.refusals.specs.declared.Component.{Component}
 use Rattle.refusals.specs.declared.Refusal.TheVariants.{Side, Qp, Lambda, Cost, Length, Sample, Level, Price}
 use Rattle.refusals.specs.declared.Refusal.TheVariants.{Distortion}
 use Rattle.refusals.specs.Numbers.{number_of, component_of}
 use Rattle.refusals.specs.Sides.{most_log2}
-use Rattle.refusals.specs.Faults.{Fault, of_none, outside, Outcome, accepted, refused, verdict, answering, if_accepted}
+use Rattle.refusals.specs.Faults.{Fault, of_none, outside, Outcome, accepted, refused, verdict, answering, if_accepted, outcome_by}
 use Rattle.price.specs.Lambda.{lambda_refused}
 use Rattle.price.specs.Level.{nearest}
 use Rattle.price.specs.Costs.{cost_refused}
 use Rattle.price.specs.Price.{uncoded}
-use Rattle.coding.specs.declared.QuantAnswer.{QuantAnswer}
-use Rattle.coding.specs.declared.QuantAnswer.TheVariants as answers
 use Rattle.coding.specs.declared.Coded.{Coded}
 use Rattle.coding.specs.Block.{Quant, area, rule_of, shift_here, lambda_here, places, is_skipped, largest, count_of}
 use Rattle.coding.specs.Block.{price_of, quantised}
@@ -114,9 +113,8 @@ unfoldable pub quant_answer : Quant → Outcome Coded
 unfolding quant_verdict count_of price_of
 quant_answer c = let a : Coded = record { count = count_of c; price = price_of c } in answering (quant_verdict c) a
 
-abbrev pub quant_outcome : QuantAnswer → Outcome Coded
-quant_outcome (answers.Coded a) = accepted a
-quant_outcome (answers.Refused why k) = refused (number_of why) (component_of k)
+abbrev pub quant_outcome : Result Coded Refused → Outcome Coded
+quant_outcome = outcome_by (λ coded. coded)
 
 -- an accepted buffer holds the levels in front, and its surplus; a refused one what it held
 unfoldable pub quant_buffer : Quant → List ℤ

@@ -4,7 +4,7 @@
 #![tactic(auto)]
 
 use price::Settings;
-use refusals::{Component, Refusal};
+use refusals::Component;
 
 // Which block is written: document 01's, or the cheapest of all whose magnitudes are 0, m or m - 1.
 #[derive(Clone, Copy)]
@@ -16,7 +16,7 @@ pub enum Mode {
 // All inputs of a call but what it is lent, which are its buffer and the cost tables: log2 of the block's side, the
 // component and its settings, whether the slice is intra, whether the block is intra-coded, and which block is
 // written.
-#[derive(Drop)]
+#[derive(Clone, Copy)]
 pub struct Coding {
     pub log2: usize,
     pub component: Component,
@@ -26,15 +26,9 @@ pub struct Coding {
     pub mode: Mode,
 }
 
-// The count of nonzero levels, and the price.
-#[derive(Drop)]
+// What the call answers: the count of nonzero levels, and the price.
+#[derive(Clone, Copy)]
 pub struct Coded {
     pub count: u32,
     pub price: u64,
-}
-
-#[derive(Drop)]
-pub enum QuantAnswer {
-    Coded(Coded),
-    Refused(Refusal, Component),
 }

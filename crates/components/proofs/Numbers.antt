@@ -24,9 +24,7 @@ abbrev pub asked : Mode → List ℤ → ℕ → (y u v : Settings) → ℕ → 
 asked mode buffer l y u v run intra_slice intra_coded t =
     requested buffer t (record {
       log2_luma = l;
-      y = y;
-      u = u;
-      v = v;
+      settings = record { y = y; u = u; v = v };
       run = run;
       intra_slice = intra_slice;
       intra_coded = intra_coded;

@@ -1,12 +1,14 @@
 -- `sub_block_tq`: its faults in order, its answer, and what its buffer then holds, as functions of all its inputs. Each
 -- component is a stretch of the one buffer; what is done to it is what the transform and the quantiser alone do.
-use Rattle.std.specs.Prelude.{Bool, ◌&&◌, ◌||◌, cond, List, [], ◌∷◌, ◌++◌, ℕ, ◌+◌, ◌-◌, ◌*◌, ◌/◌, ◌%◌, ◌^◌, ltb, eqb, length, take, drop, ℤ}
+use Rattle.std.specs.Prelude.{Bool, ◌&&◌, ◌||◌, cond, List, [], ◌∷◌, ◌++◌, ℕ, ◌+◌, ◌-◌, ◌*◌, ◌/◌, ◌%◌, ◌^◌, ltb, eqb, length, take, drop, ℤ, Result}
+use Rattle.refusals.specs.declared.Refused.{Refused}
+use Rattle.refusals.specs.declared.Three.{Three}
 use Rattle.refusals.specs.declared.Component.{Component}
 use Rattle.refusals.specs.declared.Component.TheVariants.{Y, U, «V»}
 use Rattle.refusals.specs.declared.Refusal.TheVariants.{Side, Cost, Length}
 use Rattle.refusals.specs.Numbers.{number_of, component_of}
 use Rattle.refusals.specs.Sides.{most_log2}
-use Rattle.refusals.specs.Faults.{Fault, of_none, outside, Outcome, accepted, refused, verdict, answering, if_accepted}
+use Rattle.refusals.specs.Faults.{Fault, of_none, outside, Outcome, accepted, refused, verdict, answering, if_accepted, outcome_by}
 use Rattle.transform.specs.Coefficients.{coefficients}
 use Rattle.transform.specs.Call.{Trans}
 use Rattle.transform.specs.Call as trans
@@ -18,8 +20,6 @@ use Rattle.coding.specs.declared.Coded.{Coded}
 use Rattle.coding.specs.Block.{Fixed, document01, Quant, count_of, price_of, quantised}
 use Rattle.coding.specs.Call as quant
 use Rattle.components.specs.declared.Request.{Request}
-use Rattle.components.specs.declared.SubBlockAnswer.{SubBlockAnswer}
-use Rattle.components.specs.declared.SubBlockAnswer.TheVariants as answers
 
 -- the inputs: the buffer, luma's log2 sides, each component's settings, the run mask, and what all three share; then
 -- the mode and what document 01 fixes, as of the quantiser's call
@@ -45,9 +45,9 @@ requested buffer t q =
       buffer = buffer;
       lw = q.log2_luma;
       lh = q.log2_luma;
-      y = q.y;
-      u = q.u;
-      v = q.v;
+      y = q.settings.y;
+      u = q.settings.u;
+      v = q.settings.v;
       run = q.run;
       intra_slice = q.intra_slice;
       intra_coded = q.intra_coded;
@@ -188,10 +188,8 @@ unfolding count price
 share k s = record { count = count k s; price = price k s }
 
 -- what was coded of each
-pub record Shares : Type 0 where
-  pub y : Coded
-  pub u : Coded
-  pub v : Coded
+abbrev pub Shares : Type 0
+Shares = Three Coded
 
 abbrev pub coded : (y u v : Coded) → Outcome Shares
 coded y u v = accepted (record { y = y; u = u; v = v })
@@ -202,9 +200,8 @@ sub_block_answer s =
     let a : Shares = record { y = share Y s; u = share U s; v = share «V» s } in
     answering (sub_block_verdict s) a
 
-abbrev pub sub_block_outcome : SubBlockAnswer → Outcome Shares
-sub_block_outcome (answers.Coded y u v) = coded y u v
-sub_block_outcome (answers.Refused why k) = refused (number_of why) (component_of k)
+abbrev pub sub_block_outcome : Result Shares Refused → Outcome Shares
+sub_block_outcome = outcome_by (λ shares. shares)
 
 -- ---- the buffer
 -- what a component's stretch then holds; one not run keeps its residuals

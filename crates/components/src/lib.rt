@@ -2,9 +2,9 @@
 // the buffer then holds, is said in specs/; what follows from it in proofs/. The code of the call is another crate's.
 #![tactic(auto)]
 
-use coding::{Coded, Mode};
+use coding::Mode;
 use price::Settings;
-use refusals::{Component, Refusal};
+use refusals::Three;
 
 // All inputs of a call but what it is lent, which are its buffer and the cost tables: log2 of luma's side, each
 // component's settings, the run mask, whether the slice is intra, whether the block is intra-coded, and which blocks
@@ -12,18 +12,9 @@ use refusals::{Component, Refusal};
 #[derive(Clone, Copy)]
 pub struct Request {
     pub log2_luma: usize,
-    pub y: Settings,
-    pub u: Settings,
-    pub v: Settings,
+    pub settings: Three<Settings>,
     pub run: u32,
     pub intra_slice: bool,
     pub intra_coded: bool,
     pub mode: Mode,
-}
-
-// What was coded of Y, U and V; 0 and 0 for a component that was not run.
-#[derive(Drop)]
-pub enum SubBlockAnswer {
-    Coded(Coded, Coded, Coded),
-    Refused(Refusal, Component),
 }

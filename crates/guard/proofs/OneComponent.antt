@@ -27,7 +27,7 @@ use Rattle.components.proofs.Answer.{answer_alone, buffer_alone}
 use Rattle.rooms.proofs.Fitting.{fits}
 use Rattle.stretch.specs.Inner.Part.{log2_in, coding_of, quant_in, Ready, part_answer, part_left}
 use Rattle.heights.specs.declared.Heights.{Heights}
-use Rattle.guarding.specs.declared.ThreeHeights.{ThreeHeights}
+use Rattle.refusals.specs.declared.Three.{Three}
 use Rattle.guarding.specs.declared.GuardAnswer.{GuardAnswer}
 use Rattle.guarding.specs.declared.GuardAnswer.TheVariants as answers
 use Rattle.guarding.specs.Call.{heights_of, nothing}
@@ -41,7 +41,7 @@ moved P {s = s} {c = c} {d = d} {h = h} er ec eh p =
     subst (λ (x : Heights). P s d x) eh
     (subst (λ (x : Coding). P s x h) ec (subst (λ (x : List ℤ). P x c h) er p))
 
-module _ (k : Component) (t : Costs) (q : Request) (h : ThreeHeights) (r : List ℤ) where
+module _ (k : Component) (t : Costs) (q : Request) (h : Three Heights) (r : List ℤ) where
   -- ---- not run
   pub not_run : bit k q.run ≡ false → HeldPart k t q h r r (answers.Coded nothing)
   unfolding guard_part_answer guard_part_left

@@ -21,7 +21,8 @@ use Rattle.stretch.specs.Inner.Part.{Ready}
 use Rattle.turns.specs.Inner.Parts.{joined, Parted}
 use Rattle.turns.proofs.ThreeParts.{front}
 use Rattle.turns.proofs.Passed.{room, room_holds, stretch_ready}
-use Rattle.guarding.specs.declared.ThreeHeights.{ThreeHeights}
+use Rattle.refusals.specs.declared.Three.{Three}
+use Rattle.heights.specs.declared.Heights.{Heights}
 use Rattle.guarding.specs.declared.Guarded.{Guarded}
 use Rattle.guarding.specs.declared.GuardedAnswer.{GuardedAnswer}
 use Rattle.guarding.specs.declared.GuardedAnswer.TheVariants as answers
@@ -36,7 +37,7 @@ abbrev all : GuardedBlock → Shares
 all g = shares (share Y g) (share U g) (share «V» g)
 
 -- ---- a call that an early test refuses
-module _ (b : List ℤ) (t : Costs) (q : Request) (h : ThreeHeights) (m k : ℕ) where
+module _ (b : List ℤ) (t : Costs) (q : Request) (h : Three Heights) (m k : ℕ) where
   abbrev call : GuardedBlock
   call = guarded_request b t q h
 
@@ -60,7 +61,7 @@ module _ (b : List ℤ) (t : Costs) (q : Request) (h : ThreeHeights) (m k : ℕ)
       whole_refused (verdict_in_groups b t q h ∙ (λ i. or_else (e i) (or_else (f i) (late b t q h))))
 
 -- ---- and one that is coded
-module _ (b : List ℤ) (t : Costs) (q : Request) (h : ThreeHeights) (n : ℕ) (z : Sizes q.log2_luma n)
+module _ (b : List ℤ) (t : Costs) (q : Request) (h : Three Heights) (n : ℕ) (z : Sizes q.log2_luma n)
     (early : EarlyPassed (requested b t q)) where
   abbrev s : SubBlock
   s = requested b t q

@@ -23,7 +23,8 @@ use Rattle.stretch.specs.Inner.Part.{Ready}
 use Rattle.turns.specs.Inner.Parts.{joined}
 use Rattle.turns.proofs.Turns.{joined_outcomes}
 use Rattle.turns.proofs.Alone.{alone_is_late, quant_is, three_end}
-use Rattle.guarding.specs.declared.ThreeHeights.{ThreeHeights}
+use Rattle.refusals.specs.declared.Three.{Three}
+use Rattle.heights.specs.declared.Heights.{Heights}
 use Rattle.guarding.specs.Block.{Guard, none_fits, reported, guarded_levels}
 use Rattle.guarding.specs.Call.{GuardedBlock, guarded_request, guard_of, guarded_verdict, nothing, share, guarded_answer}
 use Rattle.guarding.specs.Call.{levels, guarded_buffer}
@@ -48,7 +49,7 @@ held_past (accepted u) g = by (none_fits g)
     by true = refl
     by false = refl
 
-module _ (b : List ℤ) (t : Costs) (q : Request) (h : ThreeHeights) where
+module _ (b : List ℤ) (t : Costs) (q : Request) (h : Three Heights) where
   abbrev s : SubBlock
   s = requested b t q
 

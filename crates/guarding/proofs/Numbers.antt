@@ -14,18 +14,16 @@ use Rattle.refusals.specs.Faults.{refused}
 use Rattle.coding.specs.declared.Mode.TheVariants.{Walk}
 use Rattle.coding.proofs.Numbers.{p, m, parts, at, tables, flat}
 use Rattle.heights.specs.declared.Heights.{Heights}
-use Rattle.guarding.specs.declared.ThreeHeights.{ThreeHeights}
+use Rattle.refusals.specs.declared.Three.{Three}
 use Rattle.guarding.specs.declared.Guarded.{Guarded}
 use Rattle.guarding.specs.Call.{GuardedBlock, guarded_request, coded, nothing, guarded_answer, guarded_buffer}
 
 -- a call by its inputs one by one
-abbrev walks : List ℤ → ℕ → (y u v : Settings) → ℕ → Costs → ThreeHeights → GuardedBlock
+abbrev walks : List ℤ → ℕ → (y u v : Settings) → ℕ → Costs → Three Heights → GuardedBlock
 walks buffer l y u v run t h =
     guarded_request buffer t (record {
       log2_luma = l;
-      y = y;
-      u = u;
-      v = v;
+      settings = record { y = y; u = u; v = v };
       run = run;
       intra_slice = true;
       intra_coded = true;
@@ -35,7 +33,7 @@ walks buffer l y u v run t h =
 abbrev up_to : (darker lighter : ℕ) → Heights
 up_to darker lighter = record { darker = darker; lighter = lighter }
 
-abbrev three : (y u v : Heights) → ThreeHeights
+abbrev three : (y u v : Heights) → Three Heights
 three y u v = record { y = y; u = u; v = v }
 
 -- no sample may be off, and each may be off as far as it can be
@@ -73,7 +71,7 @@ ru = m 27 ∷ p 10 ∷ m 31 ∷ m 36 ∷ []
 abbrev rv : List ℤ
 rv = p 31 ∷ p 0 ∷ p 9 ∷ p 47 ∷ []
 
-abbrev run : ℕ → ThreeHeights → GuardedBlock
+abbrev run : ℕ → Three Heights → GuardedBlock
 run mask = walks (ry ++ (ru ++ rv)) 2 (at 22 (parts 4096)) (at 16 (parts 32)) (at 10 (parts 1)) mask costs
 
 -- luma's levels by rows: with none, 1, 4 and 8 places put back
@@ -97,7 +95,7 @@ abbrev lv : List ℤ
 lv = p 22 ∷ m 2 ∷ m 6 ∷ p 17 ∷ []
 
 -- a block that is skipped, though one m is 1
-abbrev faint : ThreeHeights → GuardedBlock
+abbrev faint : Three Heights → GuardedBlock
 faint = walks (replicate 16 (m 2) ++ (ru ++ rv)) 2 (at 27 (parts 4096)) (at 16 (parts 32)) (at 10 (parts 1)) 1 costs
 
 -- what is written is the first that fits; each component has its own heights, and one not run asks for none
@@ -117,13 +115,13 @@ repaired = ((refl, refl), (refl, refl), (refl, refl), (refl, refl), (refl, refl)
 
 -- ---- the order of the faults
 -- Y and V as above, and a residual of V that 6 refuses
-abbrev wild : ThreeHeights → GuardedBlock
+abbrev wild : Three Heights → GuardedBlock
 wild =
     walks (ry ++ (ru ++ (p 31 ∷ p 0 ∷ p 9 ∷ p 1024 ∷ []))) 2 (at 22 (parts 4096)) (at 16 (parts 32)) (at 10 (parts 1)) 7
     costs
 
 -- luma 8×8 that 8 refuses, and whose plainly rounded block is off
-abbrev dear : ThreeHeights → GuardedBlock
+abbrev dear : Three Heights → GuardedBlock
 dear =
     walks (replicate 41 (p 1023) ++ (replicate 23 (p 1000) ++ replicate 32 (p 0))) 3 (at 3 (parts 268435456))
     (at 3 (parts 1)) (at 3 (parts 1)) 1 (flat 1048576)

@@ -29,7 +29,8 @@ use Rattle.heights.specs.declared.Extremes.{Extremes}
 use Rattle.heights.specs.Extremes.{decoded, darker, lighter, extremes}
 use Rattle.heights.proofs.Exact.{none_darker, none_lighter}
 use Rattle.heights.proofs.Shown.{difference_at_most}
-use Rattle.guarding.specs.declared.ThreeHeights.{ThreeHeights}
+use Rattle.refusals.specs.declared.Three.{Three}
+use Rattle.heights.specs.declared.Heights.{Heights}
 use Rattle.guarding.specs.declared.Guarded.{Guarded}
 use Rattle.guarding.specs.Block.{price_with, levels_of, extremes_with, guarded, reported, guarded_levels}
 use Rattle.guarding.specs.Call.{GuardedBlock, guarded_request, heights_of, guard_of, share, guarded_verdict}
@@ -39,7 +40,7 @@ use Rattle.guarding.proofs.Accepted.{quantiser_accepts, one_fits, written_fits}
 use Rattle.guarding.proofs.Answer.{left_in, left_is, share_run, levels_run}
 
 -- a call with one log2 side is square
-pub request_square : (buffer : List ℤ) (t : Costs) (q : Request) (h : ThreeHeights)
+pub request_square : (buffer : List ℤ) (t : Costs) (q : Request) (h : Three Heights)
     → (guarded_request buffer t q h).call.lw ≡ (guarded_request buffer t q h).call.lh
 unfolding guarded_request requested
 request_square buffer t q h = refl

@@ -31,7 +31,8 @@ use Rattle.components.proofs.Accepted as passing
 use Rattle.components.proofs.Answer as unguarded
 use Rattle.heights.specs.Extremes.{within}
 use Rattle.heights.proofs.Tall.{tall_enough}
-use Rattle.guarding.specs.declared.ThreeHeights.{ThreeHeights}
+use Rattle.refusals.specs.declared.Three.{Three}
+use Rattle.heights.specs.declared.Heights.{Heights}
 use Rattle.guarding.specs.declared.Guarded.{Guarded}
 use Rattle.guarding.specs.Block.{none_fits, price_with, levels_of, extremes_with, fits, guarded, reported}
 use Rattle.guarding.specs.Block.{guarded_levels}
@@ -53,7 +54,7 @@ behind_both (accepted u) (accepted w) x y h = h refl refl
 behind_both (accepted u) (refused n c) x y h = refl
 behind_both (refused n c) b x y h = refl
 
-abbrev pub AllTall : ThreeHeights → Type 0
+abbrev pub AllTall : Three Heights → Type 0
 AllTall h = (k : Component) → (33791 ≤ (heights_of k h).darker) × (33791 ≤ (heights_of k h).lighter)
 
 module _ (g : GuardedBlock) (scales : g.call.fixed.scales ≡ forward) (tall : AllTall g.heights) where
@@ -186,7 +187,7 @@ module _ (g : GuardedBlock) (scales : g.call.fixed.scales ≡ forward) (tall : A
       by (refused n c) e = refused_leaves g n c (same_verdict ∙ e) ∙ sym (unguarded.refused_leaves g.call n c e)
 
 -- of a call with one log2 side
-module _ (buffer : List ℤ) (t : Costs) (q : Request) (h : ThreeHeights) (tall : AllTall h) where
+module _ (buffer : List ℤ) (t : Costs) (q : Request) (h : Three Heights) (tall : AllTall h) where
   call_is : (guarded_request buffer t q h).call ≡ requested buffer t q
   unfolding guarded_request
   call_is = refl

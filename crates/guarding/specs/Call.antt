@@ -1,12 +1,15 @@
 -- `guarded_sub_block`: its faults in order, its answer, and what its buffer then holds, as functions of all its inputs.
 -- Its faults are those of the three-component call, in their order, and behind those of each component's coefficients
 -- that none of its candidates fits.
-use Rattle.std.specs.Prelude.{◌&&◌, cond, List, [], ◌∷◌, ◌++◌, ℕ, ◌+◌, drop, ℤ}
+use Rattle.std.specs.Prelude.{◌&&◌, cond, List, [], ◌∷◌, ◌++◌, ℕ, ◌+◌, drop, ℤ, Result}
+use Rattle.refusals.specs.declared.Refused.{Refused}
+use Rattle.refusals.specs.declared.Three.{Three}
+use Rattle.refusals.specs.Three.{part_of}
 use Rattle.refusals.specs.declared.Component.{Component}
 use Rattle.refusals.specs.declared.Component.TheVariants.{Y, U, «V»}
 use Rattle.refusals.specs.declared.Refusal.TheVariants.{Height}
 use Rattle.refusals.specs.Numbers.{number_of, component_of}
-use Rattle.refusals.specs.Faults.{Fault, Outcome, accepted, refused, verdict, answering, if_accepted}
+use Rattle.refusals.specs.Faults.{Fault, Outcome, accepted, refused, verdict, answering, if_accepted, outcome_by}
 use Rattle.tables.specs.Scales.{back}
 use Rattle.transform.specs.Call as trans
 use Rattle.price.specs.declared.Costs.{Costs}
@@ -15,27 +18,22 @@ use Rattle.components.specs.declared.Request.{Request}
 use Rattle.components.specs.Call.{SubBlock, requested, runs, area, start, stretch, quant_of, in_trans, in_quant}
 use Rattle.components.specs.Call as three
 use Rattle.heights.specs.declared.Heights.{Heights}
-use Rattle.guarding.specs.declared.ThreeHeights.{ThreeHeights}
 use Rattle.guarding.specs.declared.Guarded.{Guarded}
-use Rattle.guarding.specs.declared.GuardedAnswer.{GuardedAnswer}
-use Rattle.guarding.specs.declared.GuardedAnswer.TheVariants as answers
 use Rattle.guarding.specs.Block.{Guard, none_fits, reported, guarded_levels}
 
 -- the inputs: those of the three-component call, the row of scales by which a viewer scales back, the heights
 pub record GuardedBlock : Type 0 where
   pub call : SubBlock
   pub row : List ℕ
-  pub heights : ThreeHeights
+  pub heights : Three Heights
 
 -- a call with one log2 side, by what it is lent and asked; it has the row of ticket 6
-unfoldable pub guarded_request : List ℤ → Costs → Request → ThreeHeights → GuardedBlock
+unfoldable pub guarded_request : List ℤ → Costs → Request → Three Heights → GuardedBlock
 unfolding requested back
 guarded_request buffer t q h = record { call = requested buffer t q; row = back; heights = h }
 
-abbrev pub heights_of : Component → ThreeHeights → Heights
-heights_of Y h = h.y
-heights_of U h = h.u
-heights_of «V» h = h.v
+abbrev pub heights_of : Component → Three Heights → Heights
+heights_of = part_of
 
 -- the block of a component
 unfoldable pub guard_of : Component → GuardedBlock → Guard
@@ -104,10 +102,8 @@ unfolding runs reported guard_of
 share k g = let a = reported (guard_of k g) in cond (runs k g.call) a nothing
 
 -- what was coded of each
-pub record Shares : Type 0 where
-  pub y : Guarded
-  pub u : Guarded
-  pub v : Guarded
+abbrev pub Shares : Type 0
+Shares = Three Guarded
 
 abbrev pub coded : (y u v : Guarded) → Outcome Shares
 coded y u v = accepted (record { y = y; u = u; v = v })
@@ -118,9 +114,8 @@ guarded_answer g =
     let a : Shares = record { y = share Y g; u = share U g; v = share «V» g } in
     answering (guarded_verdict g) a
 
-abbrev pub guarded_outcome : GuardedAnswer → Outcome Shares
-guarded_outcome (answers.Coded y u v) = coded y u v
-guarded_outcome (answers.Refused why k) = refused (number_of why) (component_of k)
+abbrev pub guarded_outcome : Result Shares Refused → Outcome Shares
+guarded_outcome = outcome_by (λ shares. shares)
 
 -- ---- the buffer
 -- what a component's stretch then holds; one not run keeps its residuals

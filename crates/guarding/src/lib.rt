@@ -3,17 +3,6 @@
 // proofs/ what is promised. The code of the call is other crates'.
 #![tactic(auto)]
 
-use heights::Heights;
-use refusals::{Component, Refusal};
-
-// Each component's heights.
-#[derive(Clone, Copy)]
-pub struct ThreeHeights {
-    pub y: Heights,
-    pub u: Heights,
-    pub v: Heights,
-}
-
 // What was coded of a component, and how far its samples are off at most; 0 throughout for one that was not run.
 #[derive(Clone, Copy)]
 pub struct Guarded {
@@ -21,18 +10,4 @@ pub struct Guarded {
     pub price: u64,
     pub darker: u32,
     pub lighter: u32,
-}
-
-// Of one component.
-#[derive(Drop)]
-pub enum GuardAnswer {
-    Coded(Guarded),
-    Refused(Refusal, Component),
-}
-
-// Of Y, U and V.
-#[derive(Drop)]
-pub enum GuardedAnswer {
-    Coded(Guarded, Guarded, Guarded),
-    Refused(Refusal, Component),
 }

@@ -1,14 +1,13 @@
 -- `measure`: its faults in order and its answer, as functions of all its inputs. The levels may be of any origin, and
 -- no sample is refused; nothing is written.
-use Rattle.std.specs.Prelude.{◌||◌, List, [], ◌∷◌, ℕ, ◌*◌, ◌^◌, ltb, length, ℤ}
+use Rattle.std.specs.Prelude.{◌||◌, List, [], ◌∷◌, ℕ, ◌*◌, ◌^◌, ltb, length, ℤ, Result}
+use Rattle.refusals.specs.declared.Refusal.{Refusal}
 use Rattle.refusals.specs.declared.Refusal.TheVariants.{Side, Qp, Length}
 use Rattle.refusals.specs.Numbers.{number_of}
 use Rattle.refusals.specs.Sides.{most_log2}
-use Rattle.refusals.specs.Faults.{Fault, of_none, outside, Outcome, accepted, refused, verdict, answering}
+use Rattle.refusals.specs.Faults.{Fault, of_none, outside, Outcome, accepted, refused, verdict, answering, whole_outcome_by}
 use Rattle.tables.specs.Scales.{back}
 use Rattle.heights.specs.declared.Extremes.{Extremes}
-use Rattle.heights.specs.declared.MeasureAnswer.{MeasureAnswer}
-use Rattle.heights.specs.declared.MeasureAnswer.TheVariants.{Measured, Refused}
 use Rattle.heights.specs.Extremes as of
 
 -- the inputs: two lists that begin with the residuals and with the levels of a square block by rows, its log2 side, a
@@ -58,6 +57,5 @@ unfolding measure_verdict extremes_here
 measure_answer m = let e = extremes_here m in answering (measure_verdict m) e
 
 -- what code answers, by the paper's numbers
-abbrev pub measure_outcome : MeasureAnswer → Outcome Extremes
-measure_outcome (Measured e) = accepted e
-measure_outcome (Refused why) = refused (number_of why) 0
+abbrev pub measure_outcome : Result Extremes Refusal → Outcome Extremes
+measure_outcome = whole_outcome_by (λ extremes. extremes)

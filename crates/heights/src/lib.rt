@@ -3,8 +3,6 @@
 // shown over any guess; there is no function here: `measure` has the code.
 #![tactic(auto)]
 
-use refusals::Refusal;
-
 // As found: the largest darkening of a sample, and the largest lightening.
 #[derive(Clone, Copy)]
 pub struct Extremes {
@@ -17,10 +15,4 @@ pub struct Extremes {
 pub struct Heights {
     pub darker: u32,
     pub lighter: u32,
-}
-
-#[derive(Drop)]
-pub enum MeasureAnswer {
-    Measured(Extremes),
-    Refused(Refusal),
 }

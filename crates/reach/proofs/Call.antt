@@ -24,7 +24,8 @@ use Rattle.components.specs.Inner.Groups.{EarlyPassed}
 use Rattle.components.proofs.Log2.{log2_high}
 use Rattle.components.proofs.Accepted.{sides_fine, residuals_tame}
 use Rattle.components.proofs.Alone.{stretch_long}
-use Rattle.guarding.specs.declared.ThreeHeights.{ThreeHeights}
+use Rattle.refusals.specs.declared.Three.{Three}
+use Rattle.heights.specs.declared.Heights.{Heights}
 use Rattle.guarding.specs.Block.{plain, price_with, extremes_with}
 use Rattle.guarding.specs.Call.{GuardedBlock, guarded_request, heights_of, guard_of, guarded_verdict}
 use Rattle.guarding.proofs.Fits.{Unfit}
@@ -91,7 +92,7 @@ module _ (g : GuardedBlock) (row : g.row ≡ back) (scales : g.call.fixed.scales
       (subst (λ (j : Component). Unfit (guard_of j g) (plain (quant_of j g.call))) same u.plain_too)
 
 -- of a call with one log2 side
-module _ (buffer : List ℤ) (t : Costs) (q : Request) (h : ThreeHeights) (k : Component)
+module _ (buffer : List ℤ) (t : Costs) (q : Request) (h : Three Heights) (k : Component)
     (darker : bound (log2_of k q.log2_luma) (settings_of k (requested buffer t q)).qp ≤ (heights_of k h).darker)
     (lighter : bound (log2_of k q.log2_luma) (settings_of k (requested buffer t q)).qp ≤ (heights_of k h).lighter)
   where

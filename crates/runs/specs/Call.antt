@@ -1,17 +1,16 @@
 -- `write_symbols` and `read_symbols`: their faults in order, their answers, and what is then held by what they are
 -- lent, as functions of all their inputs; and `filled`, which hands back the symbols that were written. The block lies
 -- in a buffer, by rows, w wide and h high: the calls have squares.
-use Rattle.std.specs.Prelude.{cond, ◌||◌, List, [], ◌∷◌, ◌++◌, map, ℕ, ◌*◌, ◌^◌, ltb, leb, length, take, drop, ℤ, negsuc}
+use Rattle.std.specs.Prelude.{cond, ◌||◌, List, [], ◌∷◌, ◌++◌, map, ℕ, ◌*◌, ◌^◌, ltb, leb, length, take, drop, ℤ, negsuc, Result}
 use Rattle.integers.specs.Tests.{some, eq_ℤ}
+use Rattle.refusals.specs.declared.Refusal.{Refusal}
 use Rattle.refusals.specs.declared.Refusal.TheVariants.{Side, Length, Sample, Room}
 use Rattle.refusals.specs.declared.Refusal.TheVariants as refusals
 use Rattle.refusals.specs.Numbers.{number_of}
 use Rattle.refusals.specs.Sides.{most_log2}
-use Rattle.refusals.specs.Faults.{Fault, of_none, outside, Outcome, accepted, refused, verdict, answering, if_accepted}
+use Rattle.refusals.specs.Faults.{Fault, of_none, outside, Outcome, accepted, refused, verdict, answering, if_accepted, whole_outcome_by}
 use Rattle.scan.specs.Scan.{scan}
 use Rattle.scan.specs.Order.{in_order, laid}
-use Rattle.runs.specs.declared.WriteAnswer.{WriteAnswer}
-use Rattle.runs.specs.declared.WriteAnswer.TheVariants as answers
 use Rattle.runs.specs.Packing.{run_bits, packed, unpacked}
 use Rattle.runs.specs.Runs.{nonzeros, symbols_of, levels_of, misread}
 
@@ -75,9 +74,8 @@ unfolding write_verdict symbol_count
 write_answer w = answering (write_verdict w) (symbol_count w)
 
 -- what code answers, by the paper's numbers
-abbrev pub write_outcome : WriteAnswer → Outcome ℕ
-write_outcome (answers.Written n) = accepted n
-write_outcome (answers.Refused why) = refused (number_of why) 0
+abbrev pub write_outcome : Result ℕ Refusal → Outcome ℕ
+write_outcome = whole_outcome_by (λ count. count)
 
 -- the block's symbols, packed
 unfoldable pub symbols_here : Write → List ℕ

@@ -3,21 +3,12 @@
 // undo each other. There is no function here: `symbols` has the code.
 #![tactic(auto)]
 
-use refusals::Refusal;
-
 // A level that is not 0: the zeros before it, back to the one before or to the block's beginning; its magnitude and
 // its sign; and whether none comes behind it.
-#[derive(Drop)]
+#[derive(Clone, Copy)]
 pub struct Symbol {
     pub run: u32,
     pub magnitude: u32,
     pub negative: bool,
     pub last: bool,
-}
-
-// How many symbols the writer wrote, or why it wrote none.
-#[derive(Drop)]
-pub enum WriteAnswer {
-    Written(usize),
-    Refused(Refusal),
 }

@@ -20,7 +20,7 @@ use Rattle.components.specs.Call.{SubBlock, requested, Shares, sub_block_answer,
 use Rattle.heights.specs.declared.Extremes.{Extremes}
 use Rattle.heights.specs.declared.Heights.{Heights}
 use Rattle.heights.specs.Call.{Measure, measure_answer}
-use Rattle.guarding.specs.declared.ThreeHeights.{ThreeHeights}
+use Rattle.refusals.specs.declared.Three.{Three}
 use Rattle.guarding.specs.Call.{GuardedBlock, guarded_request, guarded_answer, guarded_buffer}
 use Rattle.guarding.specs.Call as guarding
 
@@ -93,9 +93,7 @@ abbrev pub request_by : (log2 : ℕ) → List ℕ → List Float → (run flags 
 request_by log2 qp lambda run flags =
     record {
       log2_luma = log2;
-      y = settings_in qp lambda 0;
-      u = settings_in qp lambda 1;
-      v = settings_in qp lambda 2;
+      settings = record { y = settings_in qp lambda 0; u = settings_in qp lambda 1; v = settings_in qp lambda 2 };
       run = run;
       intra_slice = slice_in flags;
       intra_coded = coded_in flags;
@@ -122,7 +120,7 @@ pub record ThreeLeft (s : SubBlock) (r : ℕ) (answer : List ℕ) (buffer : List
 abbrev pub heights_in : List ℕ → ℕ → Heights
 heights_in heights k = record { darker = get_or heights k 0; lighter = get_or heights (3 + k) 0 }
 
-abbrev pub heights_by : List ℕ → ThreeHeights
+abbrev pub heights_by : List ℕ → Three Heights
 heights_by heights = record { y = heights_in heights 0; u = heights_in heights 1; v = heights_in heights 2 }
 
 abbrev pub guarded_asked : List ℤ → (log2 : ℕ) → List ℕ → List Float → (run flags : ℕ) → (costs heights : List ℕ)

@@ -10,7 +10,8 @@ use Rattle.coding.specs.declared.Coded.{Coded}
 use Rattle.components.specs.declared.Request.{Request}
 use Rattle.components.specs.Call.{bit}
 use Rattle.stretch.specs.Inner.Part.{coding_of}
-use Rattle.guarding.specs.declared.ThreeHeights.{ThreeHeights}
+use Rattle.refusals.specs.declared.Three.{Three}
+use Rattle.heights.specs.declared.Heights.{Heights}
 use Rattle.guarding.specs.declared.Guarded.{Guarded}
 use Rattle.guarding.specs.declared.GuardAnswer.{GuardAnswer}
 use Rattle.guarding.specs.Block.{Guard, guarded_levels}
@@ -22,7 +23,7 @@ abbrev pub OfMode : Quant → Coded → Type 0
 OfMode c a = (a.count ≡ count_of c) × (a.price ≡ price_of c)
 
 -- the block of a component by its residuals
-unfoldable pub guard_in : Component → Costs → Request → ThreeHeights → List ℤ → Guard
+unfoldable pub guard_in : Component → Costs → Request → Three Heights → List ℤ → Guard
 unfolding guard_by
 guard_in k t q h r = guard_by r t (coding_of k q) (heights_of k h)
 
@@ -31,19 +32,19 @@ abbrev pub past : {A : Type 0} → Outcome Unit → Outcome A → Outcome A
 past (accepted u) a = a
 past (refused n c) a = refused n c
 
-unfoldable pub guard_part_answer : Component → Costs → Request → ThreeHeights → List ℤ → Outcome Guarded
+unfoldable pub guard_part_answer : Component → Costs → Request → Three Heights → List ℤ → Outcome Guarded
 unfolding quant_verdict held_answer guard_in
 guard_part_answer k t q h r =
     let g = guard_in k t q h r in
     let a = past (quant_verdict g.call) (held_answer g) in
     cond (bit k q.run) a (accepted nothing)
 
-unfoldable pub guard_part_left : Component → Costs → Request → ThreeHeights → List ℤ → List ℤ
+unfoldable pub guard_part_left : Component → Costs → Request → Three Heights → List ℤ → List ℤ
 unfolding guarded_levels guard_in
 guard_part_left k t q h r = let after = guarded_levels (guard_in k t q h r) in cond (bit k q.run) after r
 
 -- the answer, and the levels where it is no refusal
-pub record HeldPart (k : Component) (t : Costs) (q : Request) (h : ThreeHeights) (before after : List ℤ)
+pub record HeldPart (k : Component) (t : Costs) (q : Request) (h : Three Heights) (before after : List ℤ)
     (r : GuardAnswer) : Type 0 where
   pub answer : guard_outcome r ≡ guard_part_answer k t q h before
   pub left : (a : Guarded) → guard_outcome r ≡ accepted a → after ≡ guard_part_left k t q h before

@@ -8,7 +8,8 @@ use Rattle.components.specs.declared.Request.{Request}
 use Rattle.components.specs.Call.{SubBlock}
 use Rattle.components.specs.Inner.Groups.{EarlyPassed}
 use Rattle.admission.specs.Inner.Tested.{Sizes, residuals}
-use Rattle.guarding.specs.declared.ThreeHeights.{ThreeHeights}
+use Rattle.refusals.specs.declared.Three.{Three}
+use Rattle.heights.specs.declared.Heights.{Heights}
 use Rattle.guarding.specs.declared.Guarded.{Guarded}
 use Rattle.guarding.specs.Call.{Shares}
 use Rattle.guard.specs.Inner.Part.{guard_part_answer, guard_part_left}
@@ -23,8 +24,8 @@ pub record Rooms (s : SubBlock) (log2 n : ℕ) (room shown : List ℤ) : Type 0 
 abbrev pub shares : (y u v : Guarded) → Shares
 shares y u v = record { y = y; u = u; v = v }
 
-abbrev pub answer_in : (t : Costs) (q : Request) (h : ThreeHeights) (n : ℕ) (l : List ℤ) → Component → Outcome Guarded
+abbrev pub answer_in : (t : Costs) (q : Request) (h : Three Heights) (n : ℕ) (l : List ℤ) → Component → Outcome Guarded
 answer_in t q h n l k = guard_part_answer k t q h (residuals k n l)
 
-abbrev pub left_in : (t : Costs) (q : Request) (h : ThreeHeights) (n : ℕ) (l : List ℤ) → Component → List ℤ
+abbrev pub left_in : (t : Costs) (q : Request) (h : Three Heights) (n : ℕ) (l : List ℤ) → Component → List ℤ
 left_in t q h n l k = guard_part_left k t q h (residuals k n l)

@@ -1,11 +1,12 @@
 -- What the code of one block answers and leaves, once the quantiser alone accepts it: the first candidate that fits, or
 -- 15 and the block's component.
-use Rattle.std.specs.Prelude.{◌≡◌, false, cond, List, ◌*◌, ◌^◌, ◌≤◌, length, ℤ}
+use Rattle.std.specs.Prelude.{◌≡◌, false, cond, List, ◌*◌, ◌^◌, ◌≤◌, length, ℤ, Result}
 use Rattle.integers.specs.Tests.{some}
+use Rattle.refusals.specs.declared.Refused.{Refused}
 use Rattle.refusals.specs.declared.Refusal.TheVariants.{Height}
 use Rattle.refusals.specs.Numbers.{number_of, component_of}
 use Rattle.refusals.specs.Sides.{most_log2}
-use Rattle.refusals.specs.Faults.{Outcome, accepted, passed, refused}
+use Rattle.refusals.specs.Faults.{Outcome, accepted, passed, refused, outcome_by}
 use Rattle.tables.specs.Scales.{back}
 use Rattle.price.specs.declared.Costs.{Costs}
 use Rattle.coding.specs.declared.Coding.{Coding}
@@ -15,8 +16,6 @@ use Rattle.transform.specs.Coefficients.{coefficients}
 use Rattle.transform.specs.Call.{wild}
 use Rattle.heights.specs.declared.Heights.{Heights}
 use Rattle.guarding.specs.declared.Guarded.{Guarded}
-use Rattle.guarding.specs.declared.GuardAnswer.{GuardAnswer}
-use Rattle.guarding.specs.declared.GuardAnswer.TheVariants as answers
 use Rattle.guarding.specs.Block.{Guard, none_fits, reported, guarded_levels}
 
 -- a square block by its residuals, the cost tables, what the quantiser is asked, and the heights
@@ -36,9 +35,8 @@ pub record Guardable (r : List ℤ) (t : Costs) (c : Coding) (h : Heights) (befo
   pub levels : before ≡ quantised (guard_by r t c h).call
   pub room : length shown ≡ length r
 
-abbrev pub guard_outcome : GuardAnswer → Outcome Guarded
-guard_outcome (answers.Coded a) = accepted a
-guard_outcome (answers.Refused why k) = refused (number_of why) (component_of k)
+abbrev pub guard_outcome : Result Guarded Refused → Outcome Guarded
+guard_outcome = outcome_by (λ coded. coded)
 
 unfoldable pub held_answer : Guard → Outcome Guarded
 unfolding none_fits reported
@@ -47,6 +45,6 @@ held_answer g =
     cond (none_fits g) (refused (number_of Height) (component_of g.call.component)) (accepted a)
 
 -- the answer, and the levels where it is no refusal
-pub record Held (g : Guard) (after : List ℤ) (r : GuardAnswer) : Type 0 where
+pub record Held (g : Guard) (after : List ℤ) (r : Result Guarded Refused) : Type 0 where
   pub answer : guard_outcome r ≡ held_answer g
   pub left : (a : Guarded) → guard_outcome r ≡ accepted a → after ≡ guarded_levels g
