@@ -9,48 +9,48 @@ ghost use Rattle.decoding.specs.Call.{levels_lent, scale_verdict, scale_buffer};
 ghost use Rattle.decoding.specs.Call.{coefficients_lent, inverse_verdict, inverse_buffer};
 
 use block::restore;
-use refusals::{Refusal, Verdict, no_side, side};
+use refusals::{Refusal, no_side, side};
 use rescale::rescale;
 
 pub mod block;
 
 // The levels of a square block at the front of the buffer, by rows, become its coefficients.
-pub fn scale_back(block: &mut [i16], log2_side: usize, qp: u32) -> Verdict
+pub fn scale_back(block: &mut [i16], log2_side: usize, qp: u32) -> Result<(), Refusal>
     ensures answer { verdict_outcome result ≡ scale_verdict (levels_lent block.old log2_side qp) }
     ensures buffer { block.new ≡ scale_buffer (levels_lent block.old log2_side qp) }
 {
     if no_side(log2_side) {
-        return Verdict::Refused(Refusal::Side);
+        return Err(Refusal::Side);
     }
     if 63 < qp {
-        return Verdict::Refused(Refusal::Qp);
+        return Err(Refusal::Qp);
     }
     let a = side(log2_side);
     let n = a * a;
     if block.len() < n {
-        return Verdict::Refused(Refusal::Length);
+        return Err(Refusal::Length);
     }
     rescale(&mut block[..n], log2_side, qp);
-    Verdict::Accepted
+    Ok(())
 }
 
 // The coefficients of a block at the front of the buffer, by rows, become its residuals.
-pub fn inverse(block: &mut [i16], log2_w: usize, log2_h: usize) -> Verdict
+pub fn inverse(block: &mut [i16], log2_w: usize, log2_h: usize) -> Result<(), Refusal>
     ensures answer { verdict_outcome result
         ≡ inverse_verdict (coefficients_lent block.old log2_w log2_h) }
     ensures buffer { block.new
         ≡ inverse_buffer (coefficients_lent block.old log2_w log2_h) }
 {
     if no_side(log2_w) {
-        return Verdict::Refused(Refusal::Side);
+        return Err(Refusal::Side);
     }
     if no_side(log2_h) {
-        return Verdict::Refused(Refusal::Side);
+        return Err(Refusal::Side);
     }
     let n = side(log2_w) * side(log2_h);
     if block.len() < n {
-        return Verdict::Refused(Refusal::Length);
+        return Err(Refusal::Length);
     }
     restore(&mut block[..n], log2_w, log2_h);
-    Verdict::Accepted
+    Ok(())
 }

@@ -10,7 +10,7 @@ ghost use Rattle.runs.specs.Call.{reading, read_verdict, read_buffer};
 
 use coefficients::skip::largest;
 use reader::{misread, read};
-use refusals::{Refusal, Verdict, no_side, side};
+use refusals::{Refusal, no_side, side};
 use runs::WriteAnswer;
 use writer::{count_levels, write};
 
@@ -51,23 +51,23 @@ pub fn filled<'a>(list: &'a [u32], count: usize) -> &'a [u32]
 }
 
 // The levels that the symbols of the whole list tell, by rows, in the square block at the front of `block`.
-pub fn read_symbols(list: &[u32], block: &mut [i16], log2_side: usize) -> Verdict
+pub fn read_symbols(list: &[u32], block: &mut [i16], log2_side: usize) -> Result<(), Refusal>
     ensures answer { verdict_outcome result
         ≡ read_verdict (reading list.now block.old log2_side) }
     ensures block { block.new
         ≡ read_buffer (reading list.now block.old log2_side) }
 {
     if no_side(log2_side) {
-        return Verdict::Refused(Refusal::Side);
+        return Err(Refusal::Side);
     }
     let a = side(log2_side);
     let n = a * a;
     if block.len() < n {
-        return Verdict::Refused(Refusal::Length);
+        return Err(Refusal::Length);
     }
     if misread(list, n) {
-        return Verdict::Refused(Refusal::Symbol);
+        return Err(Refusal::Symbol);
     }
     read(list, &mut block[..n], log2_side);
-    Verdict::Accepted
+    Ok(())
 }

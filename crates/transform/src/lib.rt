@@ -8,7 +8,7 @@ ghost use Rattle.refusals.specs.Faults.{verdict_outcome};
 ghost use Rattle.transform.specs.Call.{called, trans_buffer, trans_verdict, wild};
 
 use block::transform;
-use refusals::{Refusal, Verdict, no_side, side};
+use refusals::{Refusal, no_side, side};
 
 mod block;
 
@@ -28,23 +28,23 @@ pub fn has_wild(block: &[i16]) -> bool
 }
 
 // The residuals of a block at the front of the buffer, by rows, become its coefficients.
-pub fn trans(block: &mut [i16], log2_w: usize, log2_h: usize) -> Verdict
+pub fn trans(block: &mut [i16], log2_w: usize, log2_h: usize) -> Result<(), Refusal>
     ensures answer { verdict_outcome result ≡ trans_verdict (called block.old log2_w log2_h) }
     ensures buffer { block.new ≡ trans_buffer (called block.old log2_w log2_h) }
 {
     if no_side(log2_w) {
-        return Verdict::Refused(Refusal::Side);
+        return Err(Refusal::Side);
     }
     if no_side(log2_h) {
-        return Verdict::Refused(Refusal::Side);
+        return Err(Refusal::Side);
     }
     let n = side(log2_w) * side(log2_h);
     if block.len() < n {
-        return Verdict::Refused(Refusal::Length);
+        return Err(Refusal::Length);
     }
     if has_wild(&block[..n]) {
-        return Verdict::Refused(Refusal::Sample);
+        return Err(Refusal::Sample);
     }
     transform(&mut block[..n], log2_w, log2_h);
-    Verdict::Accepted
+    Ok(())
 }
