@@ -11,33 +11,32 @@ ghost use Rattle.runs.specs.Call.{reading, read_verdict, read_buffer};
 use coefficients::skip::largest;
 use reader::{misread, read};
 use refusals::{Refusal, no_side, side};
-use runs::WriteAnswer;
 use writer::{count_levels, write};
 
 // The levels of a square block at the front of `block`, by rows, as symbols at the front of the list; how many.
-pub fn write_symbols(block: &[i16], log2_side: usize, list: &mut [u32]) -> WriteAnswer
+pub fn write_symbols(block: &[i16], log2_side: usize, list: &mut [u32]) -> Result<usize, Refusal>
     ensures answer { write_outcome result
         ≡ write_answer (writing block.now log2_side list.old) }
     ensures list { list.new
         ≡ write_list (writing block.now log2_side list.old) }
 {
     if no_side(log2_side) {
-        return WriteAnswer::Refused(Refusal::Side);
+        return Err(Refusal::Side);
     }
     let a = side(log2_side);
     let n = a * a;
     if block.len() < n {
-        return WriteAnswer::Refused(Refusal::Length);
+        return Err(Refusal::Length);
     }
     if largest(&block[..n]) == 32768 {
-        return WriteAnswer::Refused(Refusal::Sample);
+        return Err(Refusal::Sample);
     }
     let count = count_levels(&block[..n]);
     if list.len() < count {
-        return WriteAnswer::Refused(Refusal::Room);
+        return Err(Refusal::Room);
     }
     write(&block[..n], log2_side, list, count);
-    WriteAnswer::Written(count)
+    Ok(count)
 }
 
 // The front of the list, so many places of it: what the writer filled, by the number that it answered.
