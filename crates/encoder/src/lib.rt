@@ -4,15 +4,14 @@
 ghost use Rattle.std.specs.Prelude.{◌≡◌, ◌≤◌};
 ghost use Rattle.encoder.specs.Lambda.{third, usual_of};
 
+#[tactic(auto, unfolding(crate::specs::Lambda::third))]
 fn root(k: u32) -> u64
     ensures { (result ≡ third k) × (result ≤ 904819) }
 {
-    if k == 0 {
-        570000
-    } else if k == 1 {
-        718155
-    } else {
-        904819
+    match k {
+        0 => 570000,
+        1 => 718155,
+        _ => 904819,
     }
 }
 
@@ -21,7 +20,6 @@ pub fn usual(qp: u32) -> u64
     requires { qp ≤ 63 }
     ensures { result ≡ usual_of qp }
 {
-    let one: u64 = 1;
-    let power = one << (qp / 3);
+    let power = 1u64 << (qp / 3);
     (root(qp % 3) * power + 128) / 256
 }
