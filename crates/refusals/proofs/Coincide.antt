@@ -68,7 +68,7 @@ module _ {T A : Type 0} (told : T → A) (tells : (a b : T) → told a ≡ told 
   outcomes_tell (Err r) (Err s) e =
       ap (λ why. Err (record { why = why; component = r.component })) (number_tells r.why s.why cc)
       ∙ ap (λ component. Err (record { why = s.why; component = component }))
-          (component_tells r.component s.component cc)
+      (component_tells r.component s.component cc)
 
   pub whole_outcomes_tell : (a b : Result T Refusal) → whole_outcome_by told a ≡ whole_outcome_by told b → a ≡ b
   whole_outcomes_tell (Ok a) (Ok b) e = ap Ok (tells a b cc)
