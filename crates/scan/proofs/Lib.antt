@@ -1,3 +1,4 @@
 pub mod OneToOne
 pub mod Order
 pub mod Laid
+pub mod Scanned

@@ -3,7 +3,6 @@
 use Rattle.std.specs.Prelude.{Bool, cond, List, [], ◌++◌, ℕ, zero, suc, ◌+◌, ◌-◌, ◌*◌, ◌%◌, ◌^◌, min, eqb, get_or}
 use Rattle.integers.specs.Tests.{listed}
 use Rattle.refusals.specs.Sides.{most_log2}
-use Rattle.scan.specs.declared.scans.Scans.{Scans}
 
 -- the places of the largest block, 32 wide and 32 high: scan places and block places are counts below it
 abbrev pub most_places : ℕ
@@ -57,14 +56,3 @@ scan_at w h p = get_or (scan w h) p 0
 unfoldable pub square_scan : ℕ → List ℕ
 unfolding scan
 square_scan l = scan (2 ^ l) (2 ^ l)
-
--- the scans of the five sides, as the table has them
-abbrev pub square_scans : Scans
-square_scans =
-    record {
-      two = square_scan 1;
-      four = square_scan 2;
-      eight = square_scan 3;
-      sixteen = square_scan 4;
-      thirtytwo = square_scan 5;
-    }

@@ -1,6 +1,6 @@
 // The scan of the squares of sides 2, 4, 8, 16 and 32: one table of 1,364 numbers, a part for each side. Nothing but
 // data.
-#[derive(Drop)]
+#[derive(Clone, Copy)]
 pub struct Scans {
     pub two: [u16; 4],
     pub four: [u16; 16],
@@ -9,7 +9,7 @@ pub struct Scans {
     pub thirtytwo: [u16; 1024],
 }
 
-pub const SCANS: Scans = Scans {
+pub static SCANS: Scans = Scans {
     two: [0, 1, 2, 3],
     four: [0, 1, 4, 8, 5, 2, 3, 6, 9, 12, 13, 10, 7, 11, 14, 15],
     eight: [
