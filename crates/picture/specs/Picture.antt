@@ -1,13 +1,7 @@
 -- A picture of up to 256 by 256 samples, by rows, and its blocks of 8 by 8, counted along the rows; places of a block
 -- are counted so too.
-use Rattle.std.specs.Prelude.{◌≡◌, Bool, true, false, cond, List, ℕ, ◌+◌, ◌-◌, ◌*◌, ◌/◌, ◌%◌, ◌≤◌, ◌<◌, min, ltb, get_or}
-use Rattle.picture.specs.declared.Size.{Size}
-
-pub record Sides (size : Size) : Type 0 where
-  pub some_wide : 1 ≤ size.width
-  pub wide : size.width ≤ 256
-  pub some_high : 1 ≤ size.height
-  pub high : size.height ≤ 256
+use Rattle.std.specs.Prelude.{◌≡◌, Bool, true, false, cond, List, ℕ, ◌+◌, ◌-◌, ◌*◌, ◌/◌, ◌%◌, ◌<◌, min, ltb, get_or}
+use Rattle.picture.specs.declared.sides.Size.{Size}
 
 -- how many blocks stand beside and below each other
 abbrev pub across_of : Size → ℕ
