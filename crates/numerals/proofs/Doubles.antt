@@ -1,6 +1,5 @@
 -- Which patterns of 64 bits are a NaN's: those above an infinity's, with the sign's bit dropped. There is one NaN,
 -- which 0 / 0 makes.
--- Assumes nothing.
 use mathlib.Core.Path.{◌≡◌, refl, sym, subst, ◌∙◌}
 use mathlib.Core.Bool.{Bool, true, not, true≢false}
 use Prim.Native.Nat.{ℕ, ◌%◌, ◌≤◌, ◌<◌}

@@ -1,5 +1,5 @@
 -- Reading a number digit by digit: what the digits left mean, given what those before them are worth.
--- Assumes nothing.
+use Rattle.std.proofs.Common.{Option, Some, None}
 use mathlib.Core.Path.{◌≡◌, refl}
 use mathlib.Core.Bool.{Bool, true, false, ◌&&◌, cond}
 use mathlib.Core.List.{List, [], ◌∷◌}
@@ -10,8 +10,6 @@ use borrow.Author.Tests.{leb-true, le-leb, lt-leb, eq-eqb, ne_eqb}
 use lib.Dec.{leb}
 use lib.ListN.{length, get_or, drop, drop_of_length-le}
 use lib.Seq.{drop-cons}
-use Rattle.numerals.specs.declared.number.Natural.{Natural}
-use Rattle.numerals.specs.declared.number.Natural.TheVariants.{Is, Malformed}
 use Rattle.numerals.specs.Number.{is_digit, digits, natural, value_from, value_of, natural_up_to}
 
 -- ---- a byte by its order
@@ -30,9 +28,9 @@ above_digits b h = simp (lt-leb b 57 h) (and_false (leb 48 b))
 
 -- ---- decimal
 -- the number of the digits w behind digits worth v
-unfoldable pub read_from : ℕ → ℕ → List ℕ → Natural
+unfoldable pub read_from : ℕ → ℕ → List ℕ → Option ℕ
 unfolding digits value_from
-read_from limit v w = cond (digits w && leb (value_from v w) limit) (Is (value_from v w)) Malformed
+read_from limit v w = cond (digits w && leb (value_from v w) limit) (Some (value_from v w)) None
 
 pub at_least : (v : ℕ) (w : List ℕ) → v ≤ value_from v w
 unfolding value_from
@@ -40,11 +38,11 @@ at_least v [] = omega arith
 at_least v (b ∷ w) = let h = at_least (10 * v + (b - 48)) w in omega arith
 
 module _ (limit : ℕ) where
-  pub none_read : natural_up_to limit [] ≡ Malformed
+  pub none_read : natural_up_to limit [] ≡ None
   unfolding natural_up_to natural
   none_read = refl
 
-  pub zero_led : (w : List ℕ) → 1 < length w → get_or w 0 0 ≡ 48 → natural_up_to limit w ≡ Malformed
+  pub zero_led : (w : List ℕ) → 1 < length w → get_or w 0 0 ≡ 48 → natural_up_to limit w ≡ None
   unfolding natural_up_to natural
   zero_led [] h e = absurd (let no : ⊥ = omega arith in no)
   zero_led (b ∷ []) h e = absurd (let no : ⊥ = omega arith in no)
@@ -58,7 +56,7 @@ module _ (limit : ℕ) where
   begun (b ∷ c ∷ w) h k = rw (ne_eqb b 48 (λ e. let f : suc (suc (length w)) ≤ 1 = k e in omega arith)) refl
 
   module _ (v : ℕ) (w : List ℕ) (i : ℕ) (h : i < length w) where
-    pub no_digit : is_digit (get_or w i 0) ≡ false → read_from limit v (drop i w) ≡ Malformed
+    pub no_digit : is_digit (get_or w i 0) ≡ false → read_from limit v (drop i w) ≡ None
     unfolding read_from digits
     no_digit e = rw (drop-cons w i 0 h, e) refl
 
@@ -67,7 +65,7 @@ module _ (limit : ℕ) where
     unfolding read_from digits value_from
     digit_next e = rw (drop-cons w i 0 h, e, add-one) refl
 
-    pub past_limit : limit < 10 * v + (get_or w i 0 - 48) → read_from limit v (drop i w) ≡ Malformed
+    pub past_limit : limit < 10 * v + (get_or w i 0 - 48) → read_from limit v (drop i w) ≡ None
     unfolding read_from digits value_from
     past_limit k =
         let p = at_least (10 * v + (get_or w i 0 - 48)) (drop (suc i) w) in
@@ -77,16 +75,16 @@ module _ (limit : ℕ) where
           and_false,
         ) refl
 
-  pub all_read : (v : ℕ) (w : List ℕ) (i : ℕ) → length w ≤ i → v ≤ limit → read_from limit v (drop i w) ≡ Is v
+  pub all_read : (v : ℕ) (w : List ℕ) (i : ℕ) → length w ≤ i → v ≤ limit → read_from limit v (drop i w) ≡ Some v
   unfolding read_from digits value_from
   all_read v w i h k = rw (drop_of_length-le w h, le-leb v limit k) refl
 
   -- what is read is within the limit
-  pub within : (w : List ℕ) (n : ℕ) → natural_up_to limit w ≡ Is n → n ≤ limit
+  pub within : (w : List ℕ) (n : ℕ) → natural_up_to limit w ≡ Some n → n ≤ limit
   unfolding natural_up_to
   within w n e = go (natural w) (leb (value_of w) limit) refl e
     where
-      go : (a b : Bool) → leb (value_of w) limit ≡ b → cond (a && b) (Is (value_of w)) Malformed ≡ Is n → n ≤ limit
+      go : (a b : Bool) → leb (value_of w) limit ≡ b → cond (a && b) (Some (value_of w)) None ≡ Some n → n ≤ limit
       go true true q p = let same : value_of w ≡ n = cc in omega (arith, leb-true (value_of w) limit q)
       go true false q p = let no : ◌≡◌ {A = ℕ} 0 1 = cc in omega arith
       go false b q p = let no : ◌≡◌ {A = ℕ} 0 1 = cc in omega arith

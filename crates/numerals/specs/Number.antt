@@ -1,10 +1,6 @@
 -- Numbers as words of a line: which words are numbers, and what they are worth. Bytes are ASCII codes: 48 to 57 are the
 -- digits, 45 is `-`, 97 to 102 are `a` to `f`.
-use Rattle.std.specs.Prelude.{Bool, true, false, not, ◌&&◌, ◌||◌, cond, List, [], ◌∷◌, ℕ, ◌+◌, ◌-◌, ◌*◌, ltb, leb, eqb, pos, neg_ℤ, length}
-use Rattle.numerals.specs.declared.number.Natural.{Natural}
-use Rattle.numerals.specs.declared.number.Natural.TheVariants as naturals
-use Rattle.numerals.specs.declared.number.Sample.{Sample}
-use Rattle.numerals.specs.declared.number.Sample.TheVariants as samples
+use Rattle.std.specs.Prelude.{Bool, true, false, not, ◌&&◌, ◌||◌, cond, List, [], ◌∷◌, ℕ, ◌+◌, ◌-◌, ◌*◌, ltb, leb, eqb, ℤ, pos, neg_ℤ, length, Option, Some, None}
 
 -- ---- reading
 abbrev pub is_digit : ℕ → Bool
@@ -34,22 +30,22 @@ unfolding value_from
 value_of w = value_from 0 w
 
 -- a word's number, if it is one and not above the limit
-unfoldable pub natural_up_to : ℕ → List ℕ → Natural
+unfoldable pub natural_up_to : ℕ → List ℕ → Option ℕ
 unfolding natural value_of
-natural_up_to limit w = cond (natural w && leb (value_of w) limit) (naturals.Is (value_of w)) naturals.Malformed
+natural_up_to limit w = cond (natural w && leb (value_of w) limit) (Some (value_of w)) None
 
 -- a natural number up to 32767, or `-` and one from 1 to 32768
-unfoldable pub negative_of : Natural → Sample
-negative_of (naturals.Is n) = cond (eqb n 0) samples.Malformed (samples.Is (neg_ℤ (pos n)))
-negative_of naturals.Malformed = samples.Malformed
+unfoldable pub negative_of : Option ℕ → Option ℤ
+negative_of (Some n) = cond (eqb n 0) None (Some (neg_ℤ (pos n)))
+negative_of None = None
 
-unfoldable pub positive_of : Natural → Sample
-positive_of (naturals.Is n) = samples.Is (pos n)
-positive_of naturals.Malformed = samples.Malformed
+unfoldable pub positive_of : Option ℕ → Option ℤ
+positive_of (Some n) = Some (pos n)
+positive_of None = None
 
-unfoldable pub sample_of : List ℕ → Sample
+unfoldable pub sample_of : List ℕ → Option ℤ
 unfolding natural_up_to negative_of positive_of
-sample_of [] = samples.Malformed
+sample_of [] = None
 sample_of (b ∷ w) = cond (eqb b 45) (negative_of (natural_up_to 32768 w)) (positive_of (natural_up_to 32767 (b ∷ w)))
 
 -- ---- 16 hex digits
@@ -66,6 +62,6 @@ hex_from v [] = v
 hex_from v (b ∷ w) = hex_from (16 * v + hex_digit b) w
 
 -- exactly 16 of them
-unfoldable pub bits_of : List ℕ → Natural
+unfoldable pub bits_of : List ℕ → Option ℕ
 unfolding hex_digits hex_from
-bits_of w = cond (eqb (length w) 16 && hex_digits w) (naturals.Is (hex_from 0 w)) naturals.Malformed
+bits_of w = cond (eqb (length w) 16 && hex_digits w) (Some (hex_from 0 w)) None

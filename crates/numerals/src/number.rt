@@ -1,122 +1,83 @@
-// A word read as a number. Nothing is read in part: a word is a number or malformed.
-ghost use Rattle.std.specs.Prelude.{◌≡◌};
+// A word read as a number. Nothing is read in part: a word is a number or none.
+ghost use Rattle.std.specs.Prelude.{◌≡◌, ◌≤◌, MatchOption};
 ghost use Rattle.std.specs.Float.{binary64};
 ghost use Rattle.std.specs.Float.Ieee.{of_bits};
 ghost use Rattle.numerals.specs.Number.{natural_up_to, sample_of, bits_of, hex_digit};
 
-#[derive(Drop)]
-pub enum Natural {
-    Is(u64),
-    Malformed,
-}
-
-#[derive(Drop)]
-pub enum Sample {
-    Is(i16),
-    Malformed,
-}
-
-// Stops at the first digit that takes the number past the limit, so that nothing overflows.
-pub fn read_natural(word: &[u8], limit: u64) -> Natural
+// The first of several digits is not 0. What is read passes the limit at no digit, so that nothing overflows.
+pub fn read_natural(word: &[u8], limit: u64) -> Option<u64>
     ensures { result ≡ natural_up_to limit word.now }
 {
-    if word.len() == 0 {
-        return Natural::Malformed;
+    if let [] | [b'0', _, ..] = word {
+        return None;
     }
-    if word[0] == b'0' {
-        if 1 < word.len() {
-            return Natural::Malformed;
+    let mut value: u64 = 0;
+    for byte in word {
+        let b'0'..=b'9' = *byte else {
+            return None;
+        };
+        let digit = u64::from(*byte - b'0');
+        value = value.checked_mul(10)?.checked_add(digit)?;
+        if limit < value {
+            return None;
         }
     }
-    let mut v: u64 = 0;
-    let mut i = 0;
-    while i < word.len() {
-        let b = word[i];
-        if b < b'0' {
-            return Natural::Malformed;
-        }
-        if b'9' < b {
-            return Natural::Malformed;
-        }
-        let d = (b - b'0') as u64;
-        if limit < d {
-            return Natural::Malformed;
-        }
-        if (limit - d) / 10 < v {
-            return Natural::Malformed;
-        }
-        v = 10 * v + d;
-        i += 1;
-    }
-    Natural::Is(v)
+    Some(value)
 }
 
 // A sample may have a `-` before it. -32768 has no magnitude in 16 bits, so that one less than it is negated.
-pub fn read_sample(word: &[u8]) -> Sample
+pub fn read_sample(word: &[u8]) -> Option<i16>
     ensures { result ≡ sample_of word.now }
 {
-    if word.len() == 0 {
-        return Sample::Malformed;
-    }
-    if word[0] == b'-' {
-        let Natural::Is(n) = read_natural(&word[1..], 32768) else {
-            return Sample::Malformed;
-        };
-        if n == 0 {
-            return Sample::Malformed;
+    match word {
+        [] => None,
+        [b'-', digits @ ..] => {
+            let size = read_natural(digits, 32768)?;
+            let less = size.checked_sub(1)?;
+            Some(-1 - less as i16)
         }
-        return Sample::Is(-1 - (n - 1) as i16);
+        _ => {
+            let plain = read_natural(word, 32767)?;
+            Some(plain as i16)
+        }
     }
-    let Natural::Is(n) = read_natural(word, 32767) else {
-        return Sample::Malformed;
-    };
-    Sample::Is(n as i16)
 }
 
-// The worth of a hex digit, and 16 for any other byte.
-fn hex_digit(b: u8) -> u64
-    ensures { result ≡ hex_digit b }
+// The worth of a hex digit.
+fn worth_of(byte: u8) -> Option<u64>
+    ensures { MatchOption result (hex_digit byte ≡ 16) (λ d. (d ≡ hex_digit byte) × (d ≤ 15)) }
 {
-    if b < b'0' {
-        return 16;
+    match byte {
+        b'0'..=b'9' => Some(u64::from(byte - b'0')),
+        b'a'..=b'f' => Some(u64::from(byte - b'a' + 10)),
+        _ => None,
     }
-    if b < 58 {
-        return (b - b'0') as u64;
-    }
-    if b < b'a' {
-        return 16;
-    }
-    if b < 103 {
-        return (b - 87) as u64;
-    }
-    16
 }
 
 // 16 hex digits in lower case: the bits of an f64.
-pub fn read_bits(word: &[u8]) -> Natural
+pub fn read_bits(word: &[u8]) -> Option<u64>
     ensures { result ≡ bits_of word.now }
 {
     if word.len() != 16 {
-        return Natural::Malformed;
+        return None;
     }
-    let mut v: u64 = 0;
-    let mut i = 0;
-    while i < word.len() {
-        let d = hex_digit(word[i]);
-        if 15 < d {
-            return Natural::Malformed;
-        }
-        v = 16 * v + d;
-        i += 1;
+    let mut value: u64 = 0;
+    for byte in word {
+        value = 16 * value + worth_of(*byte)?;
     }
-    Natural::Is(v)
+    Some(value)
 }
+
+// The bit of a sign, and the pattern of the positive infinity, above which those of NaN stand.
+const SIGN: u64 = 0x8000_0000_0000_0000;
+
+const INFINITY: u64 = 0x7ff0_0000_0000_0000;
 
 // The f64 of a pattern of bits. Every pattern of a NaN is the one NaN.
 pub fn double_of(bits: u64) -> f64
     ensures { result ≡ of_bits binary64 bits }
 {
-    if 9218868437227405312 < bits % 9223372036854775808 {
+    if INFINITY < bits % SIGN {
         return 0.0 / 0.0;
     }
     f64::from_bits(bits)

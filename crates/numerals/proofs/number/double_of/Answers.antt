@@ -3,8 +3,8 @@ use native.Mathlib.Omega.{arith}
 use Rattle.numerals.proofs.Doubles.{a_nan, no_nan}
 use Rattle.numerals.proofs.number.double_of.Goals as goal
 
-pub returns-then-bits-gt9218868437227405312 : goal.returns-then-bits-gt9218868437227405312
-returns-then-bits-gt9218868437227405312 c = a_nan _ (omega arith)
+pub returns-then-bits-gt-INFINITY : goal.returns-then-bits-gt-INFINITY
+returns-then-bits-gt-INFINITY c = a_nan _ (omega arith)
 
 pub float_from_bits-result : goal.float_from_bits-result
 float_from_bits-result c = no_nan _ (omega arith)

@@ -1,72 +1,76 @@
--- `numerals::number::read_natural` meets its contract. The loop's invariant: what was read is within the limit, and
--- what the digits left mean behind it is what the word means.
-use mathlib.Core.Path.{◌≡◌, sym, ◌∙◌}
-use mathlib.Core.List.{List, [], ◌∷◌}
-use Prim.Native.Nat.{ℕ, ◌<◌}
-use native.Mathlib.Omega.{arith}
-use lib.ListN.{length}
-use Rattle.numerals.specs.declared.number.Natural.TheVariants.{Malformed}
+-- The loop's invariant: what was read is within the limit, and what the digits left mean behind it is what the word
+-- means.
+use Rattle.std.proofs.Common.{◌≡◌, ℕ, ◌<◌, ◌*◌, ◌+◌, ◌-◌, List, [], ◌∷◌, length, drop, get_or, None, sym, ap, ◌∙◌, arith}
 use Rattle.numerals.specs.Number.{natural_up_to}
 use Rattle.numerals.proofs.Reading.{a_digit, below_digits, above_digits, none_read, zero_led, begun}
-use Rattle.numerals.proofs.Reading.{no_digit, digit_next, past_limit, all_read}
+use Rattle.numerals.proofs.Reading.{no_digit, digit_next, past_limit, all_read, read_from}
 use Rattle.numerals.proofs.number.read_natural.Goals as goal
-use Rattle.numerals.proofs.number.read_natural.Goals.{then-word-eq48+else-word-gt1, else-word-eq48}
+use Rattle.numerals.proofs.number.read_natural.Goals.{in_default, in_default-2}
 
-some : (w : List ℕ) → (length w ≡ 0 → ⊥) → 0 < length w
-some w h = omega arith
-
-alone : (w : List ℕ) (limit : ℕ) → length w ≡ 0 → natural_up_to limit w ≡ Malformed
+alone : (w : List ℕ) (limit : ℕ) → length w < 1 → natural_up_to limit w ≡ None
 alone [] limit e = none_read limit
 alone (b ∷ w) limit e = absurd (let no : ⊥ = omega arith in no)
 
-pub returns-then-word-eq0 : goal.returns-then-word-eq0
-returns-then-word-eq0 c = sym (alone c.args.word.now _ c.if-word-eq0.true)
+pub returns-in-empty : goal.returns-in-empty
+returns-in-empty c = sym (alone _ _ c.in-empty.len_below)
 
-pub returns-then-word-gt1 : goal.returns-then-word-gt1
-returns-then-word-gt1 c = sym (zero_led _ _ (omega arith) c.if-word-eq48.true)
+pub returns-in-empty-2 : goal.returns-in-empty-2
+returns-in-empty-2 c = sym (zero_led _ _ (omega arith) (omega arith))
 
-pub loop-i-init : goal.loop-i-init
-loop-i-init c =
+pub loop-byte-init : goal.loop-byte-init
+loop-byte-init c =
     let w = c.args.word.now in (
       omega arith,
-      omega arith,
-      begun _ w (some w c.if-word-eq0.false) (λ e.
-          elim c.if-word-eq48.branch [
-            | then-word-eq48+else-word-gt1 w ↦ omega arith
-            | else-word-eq48 w ↦ absurd (w.if-word-eq48.false e)
-          ]),
+      elim c.if-word-lt2.branch [
+        | in_default s ↦ begun _ w (omega arith) (λ e. omega arith)
+        | in_default-2 s ↦ begun _ w (omega arith) (λ e. omega arith)
+      ],
     )
 
-pub returns-then-b-lt48 : goal.returns-then-b-lt48
-returns-then-b-lt48 c =
-    let l = c.loop-i in
-    sym (no_digit _ l.v _ l.i c.loop-i-test.true (below_digits _ c.if-b-lt48.true)) ∙ l.invariant.2
+pub returns-in_default-byte : goal.returns-in_default-byte
+returns-in_default-byte c =
+    let l = c.loop-byte in
+    let b = get_or c.args.word.now l.byte-index 0 in
+    let low : b < 48 = omega arith in
+    sym (no_digit _ l.value _ l.byte-index c.loop-byte-test.true (below_digits b low)) ∙ l.invariant.1
 
-pub returns-then-b-gt57 : goal.returns-then-b-gt57
-returns-then-b-gt57 c =
-    let l = c.loop-i in
-    sym (no_digit _ l.v _ l.i c.loop-i-test.true (above_digits _ c.if-b-gt57.true)) ∙ l.invariant.2
+pub returns-in_default-byte-2 : goal.returns-in_default-byte-2
+returns-in_default-byte-2 c =
+    let l = c.loop-byte in
+    let b = get_or c.args.word.now l.byte-index 0 in
+    let high : 57 < b = omega arith in
+    sym (no_digit _ l.value _ l.byte-index c.loop-byte-test.true (above_digits b high)) ∙ l.invariant.1
 
-pub returns-then-limit-d : goal.returns-then-limit-d
-returns-then-limit-d c =
-    let l = c.loop-i in
-    sym (past_limit _ l.v _ l.i c.loop-i-test.true (omega arith)) ∙ l.invariant.2
+pub returns-in_err-checked_mul : goal.returns-in_err-checked_mul
+returns-in_err-checked_mul c =
+    let l = c.loop-byte in
+    rw c.from_residual.ensures
+    (sym (past_limit _ l.value _ l.byte-index c.loop-byte-test.true (omega arith)) ∙ l.invariant.1)
 
-pub returns-then-limit-d-2 : goal.returns-then-limit-d-2
-returns-then-limit-d-2 c =
-    let l = c.loop-i in
-    sym (past_limit _ l.v _ l.i c.loop-i-test.true (omega arith)) ∙ l.invariant.2
+pub returns-in_err-value : goal.returns-in_err-value
+returns-in_err-value c =
+    let l = c.loop-byte in
+    rw c.from_residual-in_err-value.ensures
+    (sym (past_limit _ l.value _ l.byte-index c.loop-byte-test.true (omega arith)) ∙ l.invariant.1)
 
-pub loop-i-preserved : goal.loop-i-preserved
-loop-i-preserved c =
-    let l = c.loop-i in (
+pub returns-then-limit-value : goal.returns-then-limit-value
+returns-then-limit-value c =
+    let l = c.loop-byte in
+    sym (past_limit _ l.value _ l.byte-index c.loop-byte-test.true (omega arith)) ∙ l.invariant.1
+
+pub loop-byte-preserved : goal.loop-byte-preserved
+loop-byte-preserved c =
+    let l = c.loop-byte in
+    let w = c.args.word.now in
+    let b = get_or w l.byte-index 0 in
+    let worth : c.in_ok-value.value ≡ 10 * l.value + (b - 48) = omega arith in (
       omega arith,
-      omega arith,
-      sym (digit_next _ l.v _ l.i c.loop-i-test.true
-          (a_digit _ c.if-b-lt48.false c.if-b-gt57.false)) ∙ l.invariant.2,
+      ap (λ v. read_from c.args.limit v (drop (l.byte-index + 1) w)) worth
+          ∙ sym (digit_next _ l.value _ l.byte-index c.loop-byte-test.true (a_digit b (omega arith) (omega arith)))
+          ∙ l.invariant.1,
     )
 
 pub returns : goal.returns
 returns c =
-    let l = c.loop-i in
-    sym (all_read _ l.v _ l.i c.loop-i-test.false l.invariant.1) ∙ l.invariant.2
+    let l = c.loop-byte in
+    sym (all_read _ l.value _ l.byte-index c.loop-byte-test.false l.invariant.0) ∙ l.invariant.1

@@ -1,49 +1,53 @@
--- `numerals::number::read_sample` meets its contract: a number, or one behind a `-`.
-use mathlib.Core.Path.{sym, ap, ◌∙◌}
+-- A number, or one behind a `-`.
+use Rattle.std.proofs.Common.{◌≡◌, length, get_or, sym, ap, ◌∙◌, arith}
 use Rattle.numerals.specs.Number.{negative_of, positive_of}
 use Rattle.numerals.proofs.Reading.{within}
 use Rattle.numerals.proofs.Signs.{nothing, behind_minus, plain, no_negative, no_minus_zero, one_less_fits}
-use Rattle.numerals.proofs.Signs.{minus_fits, a_negative, no_positive, plain_fits, a_positive}
+use Rattle.numerals.proofs.Signs.{a_negative, no_positive, plain_fits, a_positive}
 use Rattle.numerals.proofs.number.read_sample.Goals as goal
 
-pub returns-then-word-eq0 : goal.returns-then-word-eq0
-returns-then-word-eq0 c = sym (nothing _ c.if-word-eq0.true)
+pub returns-in-empty : goal.returns-in-empty
+returns-in-empty c = nothing _ c.in-empty.len_below
 
-pub returns-in_default : goal.returns-in_default
-returns-in_default c =
-    sym no_negative
-    ∙ ap negative_of c.in_default.ensures
-    ∙ sym (behind_minus _ c.if-word-eq0.false c.if-word-eq45.true)
+pub returns-in_err-size-in-45 : goal.returns-in_err-size-in-45
+returns-in_err-size-in-45 c =
+    let some : length c.args.word.now ≡ 0 → ⊥ = omega arith in
+    rw c.from_residual.ensures
+    (sym no_negative ∙ ap negative_of c.in_err-size-in-45.ensures ∙ sym (behind_minus _ some (omega arith)))
 
-pub returns-then-n-eq0 : goal.returns-then-n-eq0
-returns-then-n-eq0 c =
-    sym (no_minus_zero _ c.if-n-eq0.true)
-    ∙ ap negative_of c.in-Is.ensures
-    ∙ sym (behind_minus _ c.if-word-eq0.false c.if-word-eq45.true)
+pub returns-in_err-less-in-45 : goal.returns-in_err-less-in-45
+returns-in_err-less-in-45 c =
+    let some : length c.args.word.now ≡ 0 → ⊥ = omega arith in
+    let zero : c.in_ok-size-in-45.size ≡ 0 = omega (arith, c.in_err-less-in-45.ensures) in
+    rw c.from_residual-in_err-less-in-45.ensures
+    (sym (no_minus_zero _ zero) ∙ ap negative_of c.in_ok-size-in-45.ensures ∙ sym (behind_minus _ some (omega arith)))
 
 pub overflow_cast-result : goal.overflow_cast-result
-overflow_cast-result c = one_less_fits _ c.if-n-eq0.false (within _ _ _ (sym c.in-Is.ensures))
+overflow_cast-result c =
+    let e = c.in_ok-less-in-45.ensures in
+    rw e.1 (one_less_fits _ (omega (arith, e)) (within _ _ _ (sym c.in_ok-size-in-45.ensures)))
 
-pub overflow_sub-result-then-word-eq45 : goal.overflow_sub-result-then-word-eq45
-overflow_sub-result-then-word-eq45 c = minus_fits _ c.if-n-eq0.false (within _ _ _ (sym c.in-Is.ensures))
+pub returns-in_ok-less-in-45 : goal.returns-in_ok-less-in-45
+returns-in_ok-less-in-45 c =
+    let e = c.in_ok-less-in-45.ensures in
+    let some : length c.args.word.now ≡ 0 → ⊥ = omega arith in
+    rw e.1
+    (a_negative _ (omega (arith, e)) (within _ _ _ (sym c.in_ok-size-in-45.ensures))
+    ∙ ap negative_of c.in_ok-size-in-45.ensures
+    ∙ sym (behind_minus _ some (omega arith)))
 
-pub returns-then-word-eq45 : goal.returns-then-word-eq45
-returns-then-word-eq45 c =
-    a_negative _ c.if-n-eq0.false (within _ _ _ (sym c.in-Is.ensures))
-    ∙ ap negative_of c.in-Is.ensures
-    ∙ sym (behind_minus _ c.if-word-eq0.false c.if-word-eq45.true)
+pub returns-in_err-plain-in_default : goal.returns-in_err-plain-in_default
+returns-in_err-plain-in_default c =
+    let unsigned : get_or c.args.word.now 0 0 ≡ 45 → ⊥ = omega arith in
+    rw c.from_residual-in_err-plain-in_default.ensures
+    (sym no_positive ∙ ap positive_of c.in_err-plain-in_default.ensures ∙ sym (plain _ (omega arith) unsigned))
 
-pub returns-in_default-read_natural : goal.returns-in_default-read_natural
-returns-in_default-read_natural c =
-    sym no_positive
-    ∙ ap positive_of c.in_default-read_natural.ensures
-    ∙ sym (plain _ c.if-word-eq0.false c.if-word-eq45.false)
+pub overflow_cast-result-in_default : goal.overflow_cast-result-in_default
+overflow_cast-result-in_default c = plain_fits _ (within _ _ _ (sym c.in_ok-plain-in_default.ensures))
 
-pub overflow_cast-result-2 : goal.overflow_cast-result-2
-overflow_cast-result-2 c = plain_fits _ (within _ _ _ (sym c.in-Is-read_natural.ensures))
-
-pub returns : goal.returns
-returns c =
-    a_positive _ (within _ _ _ (sym c.in-Is-read_natural.ensures))
-    ∙ ap positive_of c.in-Is-read_natural.ensures
-    ∙ sym (plain _ c.if-word-eq0.false c.if-word-eq45.false)
+pub returns-in_ok-plain-in_default : goal.returns-in_ok-plain-in_default
+returns-in_ok-plain-in_default c =
+    let unsigned : get_or c.args.word.now 0 0 ≡ 45 → ⊥ = omega arith in
+    a_positive _ (within _ _ _ (sym c.in_ok-plain-in_default.ensures))
+    ∙ ap positive_of c.in_ok-plain-in_default.ensures
+    ∙ sym (plain _ (omega arith) unsigned)
