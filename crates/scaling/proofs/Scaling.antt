@@ -1,6 +1,5 @@
 -- The scale of a block is sound by any row of scales that code can hold, and document 01's is one: the shift lies
 -- between 14 and 28, and q·E leaves less than q of front·2^20. Code works in 32 and 64 bits by these bounds.
--- Assumes nothing.
 use mathlib.Core.Path.{◌≡◌, refl, sym, ap, ◌∙◌}
 use mathlib.Core.List.{List}
 use Prim.Native.Nat.{ℕ, zero, suc, ◌+◌, ◌-◌, ◌*◌, ◌/◌, ◌%◌, ◌^◌, ◌≤◌, ◌<◌}
@@ -13,7 +12,8 @@ use Rattle.tables.proofs.Range.{scale_range}
 use Rattle.refusals.specs.Sides.{most_log2}
 use Rattle.price.specs.Level.{shift_of, nearest}
 use Rattle.scaling.specs.declared.scale.Scale.{Scale}
-use Rattle.scaling.specs.Inner.Scale.{Sound, Usable, ScaleOf}
+use Rattle.scaling.specs.Inner.Sound.{SoundNumbers}
+use Rattle.scaling.specs.Inner.Scale.{Usable}
 
 pub forward_usable : Usable forward
 forward_usable =
@@ -82,39 +82,33 @@ half_range l qp lo hi hq = pow_mono {i = shift_of l qp - 1} {j = 27} (omega (ari
 pub least_range : (half q : ℕ) → 4096 ≤ q → half ≤ 2 ^ 27 → (half + q - 1) / q ≤ 32769
 least_range half q h b = div-le_of_le-mul q (omega arith)
 
-pub scale_sound : (row : List ℕ) → Usable row → (l qp : ℕ) → 1 ≤ l → l ≤ most_log2 → qp ≤ 63 → (g : Scale)
-    → g.q ≡ scale_of row qp → g.shift ≡ shift_of l qp
-    → g.unit ≡ 2 ^ g.shift → g.half ≡ 2 ^ (g.shift - 1) → g.error ≡ error_scale l g.q → g.front ≡ 2 ^ (8 + l)
-    → g.rest ≡ g.front * 2 ^ 20 - g.q * g.error → g.least ≡ (g.half + g.q - 1) / g.q
-    → ScaleOf row l qp g
-scale_sound row usable l qp lo hi hq g eq es eu eh ee ef er el =
+pub scale_sound : (row : List ℕ) → Usable row → (l qp : ℕ) → 1 ≤ l → l ≤ most_log2 → qp ≤ 63
+    → (q b u h e f r c : ℕ)
+    → q ≡ scale_of row qp → b ≡ shift_of l qp → u ≡ 2 ^ b → h ≡ 2 ^ (b - 1) → e ≡ error_scale l q → f ≡ 2 ^ (8 + l)
+    → r ≡ f * 2 ^ 20 - q * e → c ≡ (h + q - 1) / q
+    → SoundNumbers q b u h e f r c
+scale_sound row usable l qp lo hi hq q b u h e f r c eq es eu eh ee ef er el =
     let some_q = usable.low qp in
     let wide_q = usable.high qp in
     let s = shift_range l qp lo hi hq in
-    let e : g.error ≡ error_scale l (scale_of row qp) = ee ∙ ap (error_scale l) eq in
+    let i : e ≡ error_scale l (scale_of row qp) = ee ∙ ap (error_scale l) eq in
     let x = error_range row usable l qp hi in
-    let product : g.q * g.error ≡ scale_of row qp * error_scale l (scale_of row qp) = rw (e, eq) in
-    let f = front_range l hi in
+    let product : q * e ≡ scale_of row qp * error_scale l (scale_of row qp) = rw (i, eq) in
+    let front = front_range l hi in
     record {
-      q = eq;
-      shift = es;
-      error = ee;
-      sound =
-          record {
-            some_q = omega arith;
-            wide_q = omega arith;
-            low = omega arith;
-            high = omega arith;
-            unit = eu;
-            half = eh;
-            twice = omega (arith, halves g.shift (omega arith));
-            some_error = omega arith;
-            exact = omega arith;
-            some_front = omega arith;
-            wide_front = omega arith;
-            wide_rest = omega arith;
-            least = el;
-          };
+      some_q = omega arith;
+      wide_q = omega arith;
+      low = omega arith;
+      high = omega arith;
+      unit = eu;
+      half = eh;
+      twice = omega (arith, halves b (omega arith));
+      some_error = omega arith;
+      exact = omega arith;
+      some_front = omega arith;
+      wide_front = omega arith;
+      wide_rest = omega arith;
+      least = el;
     }
 
 -- ---- the threshold
@@ -134,21 +128,21 @@ threshold_range b lo hi unit f u h =
     (rw (e, u), omega arith, omega arith, omega (arith, unit_range b hi))
 
 -- ---- m
-pub rounding : (g : Scale) → Sound g → (L : ℕ) → (L + g.half) / 2 ^ g.shift ≡ nearest g.shift L
+pub rounding : (g : Scale) (L : ℕ) → (L + g.half) / 2 ^ g.shift ≡ nearest g.shift L
 unfolding nearest
-rounding g s L = ap (λ (k : ℕ). (L + k) / 2 ^ g.shift) s.half
+rounding g L = ap (λ (k : ℕ). (L + k) / 2 ^ g.shift) g.sound.half
 
-pub rounded_range : (g : Scale) → Sound g → (c : ℕ) → c ≤ 32768
+pub rounded_range : (g : Scale) (c : ℕ) → c ≤ 32768
     → ((c * g.q + g.half) / 2 ^ g.shift ≡ nearest g.shift (c * g.q))
     × ((c * g.q + g.half) / 2 ^ g.shift ≤ 4194304)
-rounded_range g s c h =
-    let x : c * g.q ≤ 32768 * 32767 = mul-le-mul h s.wide_q in
-    let u = unit_range g.shift s.high in
-    let low = pow_mono {i = 9} {j = g.shift} s.low in
-    (rounding g s (c * g.q), div-le_of_le-mul (2 ^ g.shift) (many (omega (arith, s.twice, s.unit))))
+rounded_range g c h =
+    let x : c * g.q ≤ 32768 * 32767 = mul-le-mul h g.sound.wide_q in
+    let u = unit_range g.shift g.sound.high in
+    let low = pow_mono {i = 9} {j = g.shift} g.sound.low in
+    (rounding g (c * g.q), div-le_of_le-mul (2 ^ g.shift) (many (omega (arith, g.sound.twice, g.sound.unit))))
   where
     many : c * g.q + g.half ≤ 512 * 4194304 → c * g.q + g.half ≤ 2 ^ g.shift * 4194304
-    many b = omega (arith, pow_mono {i = 9} {j = g.shift} s.low)
+    many b = omega (arith, pow_mono {i = 9} {j = g.shift} g.sound.low)
 
 -- nothing is left of a coefficient of 0
 pub nearest_of_0 : (b : ℕ) → 1 ≤ b → nearest b 0 ≡ 0

@@ -1,9 +1,8 @@
 // What the coefficients of a block are scaled and rounded by, worked out once a block by document 01's row of scales.
 ghost use Rattle.std.specs.Prelude.{◌≡◌, ◌≤◌, ◌*◌, ◌^◌};
 ghost use Rattle.refusals.specs.Sides.{most_log2};
-ghost use Rattle.tables.specs.Scales.{forward};
-ghost use Rattle.price.specs.Level.{shift_of, nearest, threshold};
-ghost use Rattle.scaling.specs.Inner.Scale.{Sound, ScaleOf};
+ghost use Rattle.price.specs.Level.{shift_of, threshold};
+ghost use Rattle.scaling.specs.Inner.Sound.{SoundNumbers};
 
 use tables::scales::{error_scale, scale};
 
@@ -19,31 +18,46 @@ pub struct Scale {
     pub front: u32,
     pub rest: u32,
     pub least: u16,
+    pub ghost sound: { SoundNumbers q shift unit half error front rest least },
 }
 
-pub fn scale_of(log2_side: usize, qp: u32) -> Scale
-    requires { (1 ≤ log2_side) × (log2_side ≤ most_log2) × (qp ≤ 63) }
-    ensures { ScaleOf forward log2_side qp result }
-{
-    let one: u64 = 1;
-    let l = log2_side as u32;
-    let q = scale(qp);
-    let shift = 19 - l + qp / 6;
-    let unit = one << shift;
-    let half = one << (shift - 1);
-    let error = error_scale(log2_side, qp) as u64;
-    let front = one << (8 + l);
-    let rest = front * 1048576 - q as u64 * error;
-    let least = (half + q as u64 - 1) / q as u64;
-    Scale {
-        q,
-        shift,
-        unit,
-        half,
-        error,
-        front: front as u32,
-        rest: rest as u32,
-        least: least as u16,
+impl Scale {
+    ghost use Rattle.tables.specs.Scales.{forward};
+    ghost use Rattle.price.specs.Level.{nearest};
+    ghost use Rattle.scaling.specs.Inner.Scale.{ScaleOf};
+
+    pub fn of(log2_side: usize, qp: u32) -> Scale
+        requires { (1 ≤ log2_side) × (log2_side ≤ most_log2) × (qp ≤ 63) }
+        ensures { ScaleOf forward log2_side qp result }
+    {
+        let one: u64 = 1;
+        let l = log2_side as u32;
+        let q = scale(qp);
+        let shift = 19 - l + qp / 6;
+        let unit = one << shift;
+        let half = one << (shift - 1);
+        let error = error_scale(log2_side, qp) as u64;
+        let front = one << (8 + l);
+        let rest = front * 1048576 - q as u64 * error;
+        let least = (half + q as u64 - 1) / q as u64;
+        Scale {
+            q,
+            shift,
+            unit,
+            half,
+            error,
+            front: front as u32,
+            rest: rest as u32,
+            least: least as u16,
+        }
+    }
+
+    // m of a magnitude |c|.
+    pub fn rounded(self, c: u32) -> u64
+        requires { c ≤ 32768 }
+        ensures { (result ≡ nearest self.shift (c * self.q)) × (result ≤ 4194304) }
+    {
+        (c as u64 * self.q as u64 + self.half) >> self.shift
     }
 }
 
@@ -60,12 +74,4 @@ pub fn skip_threshold(log2_side: usize, qp: u32, intra_slice: bool) -> u64
     } else {
         unit - 153 * part
     }
-}
-
-// m of a magnitude |c|.
-pub fn rounded(g: Scale, c: u32) -> u64
-    requires { Sound g × (c ≤ 32768) }
-    ensures { (result ≡ nearest g.shift (c * g.q)) × (result ≤ 4194304) }
-{
-    (c as u64 * g.q as u64 + g.half) >> g.shift
 }
