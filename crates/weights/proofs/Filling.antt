@@ -1,6 +1,6 @@
 -- Levels that are put down one by one along the scan: before place n they are those of ls, behind it nothing is put
 -- yet.
--- Assumes nothing.
+--
 use mathlib.Core.Path.{◌≡◌, refl, sym, ◌∙◌}
 use mathlib.Core.Logic.{⊎_elim}
 use mathlib.Core.Bool.{cond}

@@ -1,10 +1,11 @@
 -- The cheaper of m and m - 1 does not depend on the level before, whose price is in both; and the tests by which code
--- finds it. The walk and the search weigh it against 0. Assumes nothing.
+-- finds it. The walk and the search weigh it against 0.
 use mathlib.Core.Path.{◌≡◌, refl, sym, ap, ◌∙◌}
 use mathlib.Core.Logic.{◌⊎◌, inl, inr}
 use mathlib.Core.Bool.{Bool, true, false, cond}
 use Prim.Native.Nat.{ℕ, zero, suc, ◌+◌, ◌-◌, ◌*◌, ◌≤◌, ◌<◌, ◌^◌}
 use native.Mathlib.Nat.{mul-le-mul_right}
+use Rattle.std.proofs.Math.Arith.{lt_of_le-ne}
 use native.Mathlib.Omega.{arith}
 use lib.Dec.{ltb}
 use borrow.Author.Tests.{ltb-true, ltb-false, lt-ltb, le-ltb, ne_eqb}
@@ -88,10 +89,14 @@ module _ (p : Prices) (g : Scale) (L : ℕ) where
     pub offer_tied : first ≡ true → d ≡ c → Offered first p g L (record { level = n; price = d })
     offer_tied t l = lower (omega arith) (rw t (first_cheaper (bare p g L) n m (omega (arith, qc, qd))))
 
-    pub offer_upper : (first ≡ false) ⊎ (c < d) → c ≤ d → Offered first p g L (record { level = m; price = c })
-    offer_upper (inl t) l = upper (rw t (first_cheaper (bare p g L) m n (omega (arith, qc, qd))))
-    offer_upper (inr t) l = upper (which first)
+    -- at no tie, or where the lower does not go first
+    pub offer_upper : ((first ≡ true) × (d ≡ c → ⊥)) ⊎ (first ≡ false) → c ≤ d
+        → Offered first p g L (record { level = m; price = c })
+    offer_upper (inr t) l = upper (rw t (first_cheaper (bare p g L) m n (omega (arith, qc, qd))))
+    offer_upper (inl t) l = upper (which first)
       where
         which : (s : Bool) → first_of s (bare p g L) m n ≡ m
-        which true = other_cheaper (bare p g L) n m (let x : bare p g L m < bare p g L n = omega (arith, qc, qd) in x)
+        which true =
+            let x : bare p g L m < bare p g L n = omega (arith, qc, qd, lt_of_le-ne l (λ e. t.1 (sym e))) in
+            other_cheaper (bare p g L) n m x
         which false = first_cheaper (bare p g L) m n (omega (arith, qc, qd))

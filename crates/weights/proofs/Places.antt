@@ -1,6 +1,6 @@
 -- Magnitudes kept by rows, in scan order: each scan place is met once, so that counts don't depend on the order and
 -- what holds along the scan holds everywhere. Where nothing is kept m is 0, and no distortion; where something is, L
--- fits. Assumes nothing.
+-- fits.
 use mathlib.Core.Path.{◌≡◌, refl, sym, ap, subst, ◌∙◌}
 use mathlib.Core.Logic.{⊎_elim}
 use mathlib.Core.List.{List, map}
@@ -22,7 +22,6 @@ use Rattle.price.proofs.Level.{distortion_of_0}
 use Rattle.price.proofs.Counting.{ones, nonzeros_over, nonzeros_next, some_left, none_left}
 use Rattle.scaling.specs.declared.scale.Scale.{Scale}
 use Rattle.weights.specs.declared.prices.Prices.{Prices}
-use Rattle.scaling.specs.Inner.Scale.{Sound}
 use Rattle.weights.specs.Inner.Prices.{rule_by}
 use Rattle.weights.specs.Inner.Places.{kept_at, in_scan, kept_from, kept_places, Scanned, Weighable, Standing}
 use Rattle.scaling.proofs.Scaling.{nearest_of_0}
@@ -110,10 +109,10 @@ module _ (width height : ℕ) (held : List ℕ) (sc : Scanned width height held)
     unfolding scan_at
     place_at n h = map_at 0 0 (λ k. get_or kept k 0 * g.q) (scan width height) n (omega (arith, sc.full))
 
-pub nothing_there : (g : Scale) → Sound g → (a : ℕ) → a ≡ 0 → nearest g.shift (a * g.q) ≡ 0
-nothing_there g s a e =
+pub nothing_there : (g : Scale) (a : ℕ) → a ≡ 0 → nearest g.shift (a * g.q) ≡ 0
+nothing_there g a e =
     ap (nearest g.shift) (ap (λ (b : ℕ). b * g.q) e ∙ zero-mul g.q)
-    ∙ nearest_of_0 g.shift (omega (arith, s.low))
+    ∙ nearest_of_0 g.shift (omega (arith, g.sound.low))
 
 pub nothing_uncoded : (p : Prices) (g : Scale) → (rule_by p g).dist 0 0 ≡ 0
 unfolding rule_by
@@ -128,4 +127,4 @@ pub product_small : (p : Prices) (g : Scale) (width height : ℕ) (kept : List �
     → (k : ℕ)
     → get_or kept k 0 * g.q ≤ 2 ^ 49
 product_small p g width height kept w k =
-    omega (arith, (w.fine k).near, mul-le-mul_left (get_or kept k 0 * g.q) w.sound.some_error)
+    omega (arith, (w.fine k).near, mul-le-mul_left (get_or kept k 0 * g.q) g.sound.some_error)

@@ -1,4 +1,4 @@
--- Rooms that are lent: the front of a cleared array has the length asked for, and is 0 everywhere. Assumes nothing.
+-- Rooms that are lent: the front of a cleared array has the length asked for, and is 0 everywhere.
 use mathlib.Core.Path.{◌≡◌, refl}
 use Prim.Native.Nat.{ℕ, zero, suc, ◌≤◌}
 use native.Mathlib.Omega.{arith}

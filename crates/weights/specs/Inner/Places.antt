@@ -6,8 +6,7 @@ use Rattle.price.specs.Level.{nearest}
 use Rattle.price.specs.Price.{nonzeros}
 use Rattle.scaling.specs.declared.scale.Scale.{Scale}
 use Rattle.weights.specs.declared.prices.Prices.{Prices}
-use Rattle.scaling.specs.Inner.Scale.{Sound}
-use Rattle.weights.specs.Inner.Prices.{Modest, Fine}
+use Rattle.weights.specs.Inner.Prices.{Fine}
 
 -- what is kept for scan place n, all of it in scan order, and how much of it from place n on
 abbrev pub kept_at : (w h : ℕ) → List ℕ → ℕ → ℕ
@@ -33,8 +32,6 @@ pub record Scanned (w h : ℕ) (held : List ℕ) : Type 0 where
 
 -- magnitudes that can be weighed: what refusals 7 and 8 leave, and nothing is kept whose m is 0
 pub record Weighable (p : Prices) (g : Scale) (w h : ℕ) (kept : List ℕ) : Type 0 where
-  pub modest : Modest p
-  pub sound : Sound g
   pub room : length kept ≡ w * h
   pub fine : (k : ℕ) → Fine p g (get_or kept k 0 * g.q)
   pub some : (k : ℕ) → 1 ≤ get_or kept k 0 → 1 ≤ nearest g.shift (get_or kept k 0 * g.q)

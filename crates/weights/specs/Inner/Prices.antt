@@ -4,18 +4,11 @@ use Rattle.price.specs.Level.{nearest, distortion}
 use Rattle.price.specs.Rule.{Rule}
 use Rattle.scaling.specs.declared.scale.Scale.{Scale}
 use Rattle.weights.specs.declared.prices.Prices.{Prices}
+use Rattle.weights.specs.Inner.Modest.{ModestNumbers}
 
-pub record Modest (p : Prices) : Type 0 where
-  pub zero : p.zero ≤ 2 ^ 48
-  pub zeros : p.zeros ≤ 2 ^ 48
-  pub head : p.head ≤ 2 ^ 49
-  pub heads : p.heads ≤ 2 ^ 49
-  pub one : p.one ≤ 2 ^ 48
-  pub two : p.two ≤ 2 ^ 49
-  pub more : p.more ≤ 2 ^ 48
-  pub last : p.last ≤ 2 ^ 48
-  pub empty : p.empty ≤ 2 ^ 48
-  pub coded : p.coded ≤ 2 ^ 48
+-- all prices that code holds are
+abbrev pub Modest : Prices → Type 0
+Modest p = ModestNumbers p.zero p.zeros p.head p.heads p.one p.two p.more p.last p.empty p.coded
 
 abbrev pub zero_price : Prices → Bool → ℕ
 zero_price p after_zero = cond after_zero p.zeros p.zero
