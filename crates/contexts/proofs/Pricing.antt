@@ -1,5 +1,5 @@
 -- Prices with lambda multiplied in are the rule's: a rate by the prices is lambda times the rate of the tables, and so
--- the rule that a scale and prices make is the call's. Prices are modest, by which running totals fit. Assumes nothing.
+-- the rule that a scale and prices make is the call's. Prices are modest, by which running totals fit.
 use mathlib.Core.Path.{◌≡◌, refl, sym, ap, ◌∙◌}
 use mathlib.Core.Bool.{Bool, true, false, cond}
 use mathlib.Core.List.{List}
@@ -9,9 +9,10 @@ use native.Mathlib.Omega.{arith}
 use lib.ListN.{get_or}
 use Rattle.price.specs.declared.Costs.{Costs}
 use Rattle.price.specs.Costs.{Rows, entry, run_row, rate}
+use Rattle.weights.specs.declared.prices.Prices.{Prices}
 use Rattle.weights.specs.Inner.Prices.{zero_price, head_price, level_price, rate_by}
 use Rattle.contexts.specs.declared.Pair.{Pair}
-use Rattle.contexts.specs.Inner.Reading.{prices_of, PairOf, PricesOf}
+use Rattle.contexts.specs.Inner.Reading.{PairOf, PricesOf}
 
 pub weighed : (lambda x : ℕ) → lambda ≤ 2 ^ 28 → x ≤ 1048576 → lambda * x ≤ 2 ^ 48
 weighed lambda x h k = omega (arith, mul-le-mul h k)
@@ -24,43 +25,38 @@ module _ (sign lambda : ℕ) (t : Costs) (rows : Rows) where
   after true i = refl
   after false i = ap (λ (k : ℕ). entry t.run k i) (omega arith)
 
-  zero_price_lem : (z : Bool) → zero_price (prices_of sign lambda t rows) z ≡ lambda * entry t.run (run_row rows z) 1
-  unfolding prices_of
-  zero_price_lem true = ap (λ (x : ℕ). lambda * x) (sym (after true 1))
-  zero_price_lem false = ap (λ (x : ℕ). lambda * x) (sym (after false 1))
-
-  head_price_lem : (z : Bool) → head_price (prices_of sign lambda t rows) z
-      ≡ lambda * (sign + entry t.run (run_row rows z) 0)
-  unfolding prices_of
-  head_price_lem true = rw (after true 0) (sym (mul-add lambda sign (entry t.run (rows.run + 1) 0)))
-  head_price_lem false = rw (after false 0) (sym (mul-add lambda sign (entry t.run rows.run 0)))
-
   level_weighed : (n x y v : ℕ) → lambda * x + lambda * y + n * (lambda * v) ≡ lambda * (x + n * v + y)
   level_weighed n x y v =
       omega (arith, mul-add lambda (x + n * v) y, mul-add lambda x (n * v), mul_left_comm n lambda v)
 
-  pub rate_weighed : (z : Bool) (a : ℕ) → rate_by (prices_of sign lambda t rows) z a ≡ lambda * rate sign t rows z a
-  unfolding rate_by rate level_price prices_of
-  rate_weighed z zero = zero_price_lem z
-  rate_weighed z (suc zero) =
-      omega (
-        arith,
-        head_price_lem z,
-        mul-add lambda (sign + entry t.run (run_row rows z) 0)
-            (entry t.level rows.level 0),
-      )
-  rate_weighed z (suc (suc n)) =
-      let j = rows.level in
-      let x = entry t.level j 1 in
-      let y = entry t.level (j + 1) 0 in
-      let v = entry t.level (j + 1) 1 in
-      omega (
-        arith,
-        head_price_lem z,
-        level_weighed n x y v,
-        mul-add lambda (sign + entry t.run (run_row rows z) 0)
-            (x + n * v + y),
-      )
+  module _ (p : Prices) (are : PricesOf sign lambda t rows p) where
+    zero_price_lem : (z : Bool) → zero_price p z ≡ lambda * entry t.run (run_row rows z) 1
+    zero_price_lem true = are.zeros ∙ ap (λ (x : ℕ). lambda * x) (sym (after true 1))
+    zero_price_lem false = are.zero ∙ ap (λ (x : ℕ). lambda * x) (sym (after false 1))
+
+    head_price_lem : (z : Bool) → head_price p z ≡ lambda * (sign + entry t.run (run_row rows z) 0)
+    head_price_lem true = are.heads ∙ rw (after true 0) (sym (mul-add lambda sign (entry t.run (rows.run + 1) 0)))
+    head_price_lem false = are.head ∙ rw (after false 0) (sym (mul-add lambda sign (entry t.run rows.run 0)))
+
+    pub rate_weighed : (z : Bool) (a : ℕ) → rate_by p z a ≡ lambda * rate sign t rows z a
+    unfolding rate_by rate level_price
+    rate_weighed z zero = zero_price_lem z
+    rate_weighed z (suc zero) =
+        let first = entry t.level rows.level 0 in
+        omega (arith, head_price_lem z, are.one, mul-add lambda (sign + entry t.run (run_row rows z) 0) first)
+    rate_weighed z (suc (suc n)) =
+        let j = rows.level in
+        let x = entry t.level j 1 in
+        let y = entry t.level (j + 1) 0 in
+        let v = entry t.level (j + 1) 1 in
+        omega (
+          arith,
+          are.two,
+          ap (λ (k : ℕ). n * k) are.each,
+          head_price_lem z,
+          level_weighed n x y v,
+          mul-add lambda (sign + entry t.run (run_row rows z) 0) (x + n * v + y),
+        )
 
 -- ---- what code works out
 pub pair_of : (lambda : ℕ) (table : List ℕ) (row : ℕ) (r : Pair) → lambda ≤ 2 ^ 28
@@ -74,58 +70,4 @@ pair_of lambda table row r hl h e f =
       second = f;
       first_small = omega (arith, weighed lambda (get_or table (2 * row) 0) hl (h (2 * row)));
       second_small = omega (arith, weighed lambda (get_or table (2 * row + 1) 0) hl (h (2 * row + 1)));
-    }
-
-pub prices_are : (sign lambda : ℕ) (t : Costs) (rows : Rows) (run runs low high ends cbf : Pair) → lambda ≤ 2 ^ 28
-    → sign ≤ 1048576
-    → PairOf lambda t.run rows.run run → PairOf lambda t.run (rows.run + 1) runs
-    → PairOf lambda t.level rows.level low
-    → PairOf lambda t.level (rows.level + 1) high → PairOf lambda t.last rows.last ends
-    → PairOf lambda t.cbf rows.cbf cbf
-    → PricesOf sign lambda t rows
-    (record {
-      zero = run.second;
-      zeros = runs.second;
-      head = lambda * sign + run.first;
-      heads = lambda * sign + runs.first;
-      one = low.first;
-      two = low.second + high.first;
-      each = high.second;
-      more = ends.first;
-      last = ends.second;
-      empty = cbf.first;
-      coded = cbf.second;
-    })
-unfolding prices_of
-prices_are sign lambda t rows run runs low high ends cbf hl hs a b c d e f =
-    let s = weighed lambda sign hl hs in
-    record {
-      is =
-          rw (
-            a.first,
-            a.second,
-            b.first,
-            b.second,
-            c.first,
-            c.second,
-            d.first,
-            d.second,
-            e.first,
-            e.second,
-            f.first,
-            f.second,
-          );
-      modest =
-          record {
-            zero = a.second_small;
-            zeros = b.second_small;
-            head = omega (arith, a.first_small);
-            heads = omega (arith, b.first_small);
-            one = c.first_small;
-            two = omega (arith, c.second_small, d.first_small);
-            more = e.first_small;
-            last = e.second_small;
-            empty = f.first_small;
-            coded = f.second_small;
-          };
     }

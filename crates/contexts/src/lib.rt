@@ -12,7 +12,7 @@ use refusals::Component;
 use weights::prices::Prices;
 
 // Where a component's pairs stand in each table.
-#[derive(Drop)]
+#[derive(Clone, Copy)]
 pub struct Contexts {
     pub run: usize,
     pub level: usize,
@@ -20,44 +20,26 @@ pub struct Contexts {
     pub cbf: usize,
 }
 
+#[tactic(auto, unfolding(price::specs::Rows::rows_of))]
 pub fn contexts_of(component: Component, intra_coded: bool) -> Contexts
     ensures { ContextsOf component intra_coded result }
 {
-    match component {
-        Component::Y => {
-            if intra_coded {
-                Contexts {
-                    run: 0,
-                    level: 0,
-                    last: 0,
-                    cbf: 1,
-                }
-            } else {
-                Contexts {
-                    run: 0,
-                    level: 0,
-                    last: 0,
-                    cbf: 0,
-                }
-            }
-        }
-        Component::U => Contexts {
-            run: 2,
-            level: 2,
-            last: 1,
-            cbf: 2,
-        },
-        Component::V => Contexts {
-            run: 2,
-            level: 2,
-            last: 1,
-            cbf: 3,
-        },
+    let (run, level, last, cbf) = match (component, intra_coded) {
+        (Component::Y, false) => (0, 0, 0, 0),
+        (Component::Y, true) => (0, 0, 0, 1),
+        (Component::U, _) => (2, 2, 1, 2),
+        (Component::V, _) => (2, 2, 1, 3),
+    };
+    Contexts {
+        run,
+        level,
+        last,
+        cbf,
     }
 }
 
 // A pair of a table, with lambda multiplied in.
-#[derive(Drop)]
+#[derive(Clone, Copy)]
 pub struct Pair {
     pub first: u64,
     pub second: u64,
@@ -87,16 +69,12 @@ pub fn prices_of(costs: Costs, at: Contexts, lambda: u64) -> Prices
     requires { InRange costs × Inside at × (lambda ≤ 2 ^ 28) }
     ensures { PricesOf 32768 lambda costs (rows_in at) result }
 {
-    let run_table = costs.run;
-    let run = pair_at(&run_table, at.run, lambda);
-    let runs = pair_at(&run_table, at.run + 1, lambda);
-    let level_table = costs.level;
-    let low = pair_at(&level_table, at.level, lambda);
-    let high = pair_at(&level_table, at.level + 1, lambda);
-    let last_table = costs.last;
-    let ends = pair_at(&last_table, at.last, lambda);
-    let cbf_table = costs.cbf;
-    let cbf = pair_at(&cbf_table, at.cbf, lambda);
+    let run = pair_at(&costs.run, at.run, lambda);
+    let runs = pair_at(&costs.run, at.run + 1, lambda);
+    let low = pair_at(&costs.level, at.level, lambda);
+    let high = pair_at(&costs.level, at.level + 1, lambda);
+    let ends = pair_at(&costs.last, at.last, lambda);
+    let cbf = pair_at(&costs.cbf, at.cbf, lambda);
     let sign = lambda * 32768;
     Prices {
         zero: run.second,

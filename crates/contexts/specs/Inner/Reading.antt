@@ -3,7 +3,6 @@ use Rattle.std.specs.Prelude.{◌≡◌, List, ℕ, ◌+◌, ◌*◌, ◌^◌, �
 use Rattle.price.specs.declared.Costs.{Costs}
 use Rattle.price.specs.Costs.{Rows, entry}
 use Rattle.weights.specs.declared.prices.Prices.{Prices}
-use Rattle.weights.specs.Inner.Prices.{Modest}
 use Rattle.contexts.specs.declared.Pair.{Pair}
 
 pub record PairOf (lambda : ℕ) (table : List ℕ) (row : ℕ) (r : Pair) : Type 0 where
@@ -17,26 +16,17 @@ pub record EmptyPrice (lambda : ℕ) (t : Costs) (rows : Rows) (r : ℕ) : Type 
   pub is : r ≡ lambda * entry t.cbf rows.cbf 0
   pub small : r ≤ 2 ^ 48
 
--- of a 0 and of the run of a level, after a nonzero level and after a 0; of a level itself: 1, 2, and each one more
-unfoldable pub prices_of : (sign lambda : ℕ) → Costs → Rows → Prices
-unfolding entry
-prices_of sign lambda t rows =
-    let k = rows.run in
-    let j = rows.level in
-    record {
-      zero = lambda * entry t.run k 1;
-      zeros = lambda * entry t.run (k + 1) 1;
-      head = lambda * sign + lambda * entry t.run k 0;
-      heads = lambda * sign + lambda * entry t.run (k + 1) 0;
-      one = lambda * entry t.level j 0;
-      two = lambda * entry t.level j 1 + lambda * entry t.level (j + 1) 0;
-      each = lambda * entry t.level (j + 1) 1;
-      more = lambda * entry t.last rows.last 0;
-      last = lambda * entry t.last rows.last 1;
-      empty = lambda * entry t.cbf rows.cbf 0;
-      coded = lambda * entry t.cbf rows.cbf 1;
-    }
-
+-- of a 0 and of the run of a level, after a nonzero level and after a 0; of a level itself: 1, 2, and each one more; of
+-- the flags
 pub record PricesOf (sign lambda : ℕ) (t : Costs) (rows : Rows) (p : Prices) : Type 0 where
-  pub is : p ≡ prices_of sign lambda t rows
-  pub modest : Modest p
+  pub zero : p.zero ≡ lambda * entry t.run rows.run 1
+  pub zeros : p.zeros ≡ lambda * entry t.run (rows.run + 1) 1
+  pub head : p.head ≡ lambda * sign + lambda * entry t.run rows.run 0
+  pub heads : p.heads ≡ lambda * sign + lambda * entry t.run (rows.run + 1) 0
+  pub one : p.one ≡ lambda * entry t.level rows.level 0
+  pub two : p.two ≡ lambda * entry t.level rows.level 1 + lambda * entry t.level (rows.level + 1) 0
+  pub each : p.each ≡ lambda * entry t.level (rows.level + 1) 1
+  pub more : p.more ≡ lambda * entry t.last rows.last 0
+  pub last : p.last ≡ lambda * entry t.last rows.last 1
+  pub empty : p.empty ≡ lambda * entry t.cbf rows.cbf 0
+  pub coded : p.coded ≡ lambda * entry t.cbf rows.cbf 1
