@@ -16,7 +16,7 @@ use Rattle.finished.specs.Inner.Finished.{held, places_of}
 use Rattle.heights.specs.declared.Extremes.{Extremes}
 use Rattle.heights.specs.Extremes.{extremes, within}
 use Rattle.trial.specs.declared.Terms.{Terms}
-use Rattle.trial.specs.declared.Tried.TheVariants.{Fits, No}
+use Rattle.std.specs.Prelude.{Some, None}
 use Rattle.trial.specs.Inner.Trial.{levels_by, price_by, extremes_by, fits_by, report_by, TriedAs}
 
 -- a price that is held below 2^62 is the price itself
@@ -38,12 +38,12 @@ held_high x h =
     (below_or_not x (2 ^ 62))
 
 module _ (t : Terms) (r B : List ℤ) (cs ms : List ℕ) where
-  unfit : (after : List ℤ) → fits_by t r B cs ms ≡ false → TriedAs t r B cs ms after No
+  unfit : (after : List ℤ) → fits_by t r B cs ms ≡ false → TriedAs t r B cs ms after None
   unfit after e = record { answer = rw e; left = λ y. absurd (true≢false (sym y ∙ e)) }
 
   -- v is what code has of the price
   module _ (v : ℕ) (priced : v ≡ held (price (rule_by t.prices t.scale) ms (places_of t.scale cs))) where
-    pub too_dear : (after : List ℤ) → 2 ^ 62 ≤ v → TriedAs t r B cs ms after No
+    pub too_dear : (after : List ℤ) → 2 ^ 62 ≤ v → TriedAs t r B cs ms after None
     unfolding fits_by price_by
     too_dear after h =
         unfit after
@@ -69,12 +69,12 @@ module _ (t : Terms) (r B : List ℤ) (cs ms : List ℕ) where
           ∙ ap (λ (a : Extremes). within a t.heights) (sym off_is)
           ∙ e
 
-      pub too_dark : t.heights.darker < o.darker → TriedAs t r B cs ms after No
+      pub too_dark : t.heights.darker < o.darker → TriedAs t r B cs ms after None
       unfolding within
       too_dark h = unfit after (by_extremes false (rw (lt-leb o.darker t.heights.darker h)))
 
       module _ (dark : o.darker ≤ t.heights.darker) where
-        pub too_light : t.heights.lighter < o.lighter → TriedAs t r B cs ms after No
+        pub too_light : t.heights.lighter < o.lighter → TriedAs t r B cs ms after None
         unfolding within
         too_light h =
             unfit after
@@ -99,7 +99,7 @@ module _ (t : Terms) (r B : List ℤ) (cs ms : List ℕ) where
           }
 
           pub all_fits : (n : ℕ) → n ≡ nonzeros ms
-              → TriedAs t r B cs ms after (Fits (record {
+              → TriedAs t r B cs ms after (Some (record {
                 count = n;
                 price = v;
                 darker = o.darker;
@@ -107,7 +107,7 @@ module _ (t : Terms) (r B : List ℤ) (cs ms : List ℕ) where
               }))
           all_fits n e =
               record {
-                answer = ap Fits (sym (report_is n e))
-                    ∙ sym (ap (λ (b : Bool). cond b (Fits (report_by t r B cs ms)) No) fitting);
+                answer = ap Some (sym (report_is n e))
+                    ∙ sym (ap (λ (b : Bool). cond b (Some (report_by t r B cs ms)) None) fitting);
                 left = λ y. left;
               }

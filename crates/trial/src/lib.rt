@@ -17,6 +17,9 @@ use scaling::scale::{Scale, rounded};
 use signs::put_signs;
 use weights::prices::Prices;
 
+// A price from here on, 2^62, is not worked out further: it fits nowhere.
+const DEAR: u64 = 4611686018427387904;
+
 // What the candidates of a block are tried by: its prices and its scale, log2 of its side, its QP, and its heights.
 #[derive(Clone, Copy)]
 pub struct Terms {
@@ -25,12 +28,6 @@ pub struct Terms {
     pub log2: usize,
     pub qp: u32,
     pub heights: Heights,
-}
-
-#[derive(Drop)]
-pub enum Tried {
-    Fits(Guarded),
-    No,
 }
 
 // m of each |c|.
@@ -66,7 +63,7 @@ fn write_levels(
     put_signs(levels, rows)
 }
 
-// A price from 2^62 on is not worked out further: it fits nowhere.
+// What a candidate comes to where it fits. Its levels are left in either case.
 pub fn try_one(
     levels: &mut [i16],
     residuals: &[i16],
@@ -77,26 +74,23 @@ pub fn try_one(
     ms: &[u16],
     places: &[u16],
     t: Terms,
-) -> Tried
+) -> Option<Guarded>
     requires { Triable t residuals.now coefs.now scan.now places.now ms.now (length levels.old)
         (length shown.old) (length rows.old) }
     ensures { TriedAs t residuals.now coefs.now places.now ms.now
         levels.new result }
 {
     let price = price_of(ms, places, t.prices, t.scale);
-    if 4611686018427387904 <= price {
-        return Tried::No;
+    if DEAR <= price {
+        return None;
     }
     let count = write_levels(levels, coefs, scan, rows, ms, t.log2);
     let off = look(residuals, levels, shown, t.log2, t.qp);
     let most = t.heights;
-    if most.darker < off.darker {
-        return Tried::No;
+    if most.darker < off.darker || most.lighter < off.lighter {
+        return None;
     }
-    if most.lighter < off.lighter {
-        return Tried::No;
-    }
-    Tried::Fits(Guarded {
+    Some(Guarded {
         count,
         price,
         darker: off.darker,

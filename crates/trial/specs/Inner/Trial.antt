@@ -1,7 +1,7 @@
 -- A candidate by what code has of it: the coefficients of a square block by rows, their |c| in scan order, the prices
 -- and the scale. What it costs, what it leaves, how far it is off and whether it fits are those of specs/Block.antt of
 -- `guarding`, in these numbers.
-use Rattle.std.specs.Prelude.{◌≡◌, Bool, true, cond, ◌&&◌, List, ℕ, ◌*◌, ◌^◌, ◌≤◌, ltb, length, get_or, ℤ}
+use Rattle.std.specs.Prelude.{◌≡◌, Bool, true, cond, ◌&&◌, List, ℕ, ◌*◌, ◌^◌, ◌≤◌, ltb, length, get_or, ℤ, Option, Some, None}
 use Rattle.refusals.specs.Sides.{most_log2}
 use Rattle.tables.specs.Scales.{back}
 use Rattle.scan.specs.Scan.{scan}
@@ -17,8 +17,6 @@ use Rattle.heights.specs.declared.Extremes.{Extremes}
 use Rattle.heights.specs.Extremes.{extremes, within}
 use Rattle.guarding.specs.declared.Guarded.{Guarded}
 use Rattle.trial.specs.declared.Terms.{Terms}
-use Rattle.trial.specs.declared.Tried.{Tried}
-use Rattle.trial.specs.declared.Tried.TheVariants.{Fits, No}
 
 -- m of a |c|
 abbrev pub top_by : Scale → ℕ → ℕ
@@ -73,6 +71,6 @@ pub record Triable (t : Terms) (r B : List ℤ) (held cs ms : List ℕ) (levels 
   pub row_room : rows ≡ 2 ^ t.log2 * 2 ^ t.log2
 
 -- the answer, and the levels where it fits
-pub record TriedAs (t : Terms) (r B : List ℤ) (cs ms : List ℕ) (after : List ℤ) (o : Tried) : Type 0 where
-  pub answer : o ≡ cond (fits_by t r B cs ms) (Fits (report_by t r B cs ms)) No
+pub record TriedAs (t : Terms) (r B : List ℤ) (cs ms : List ℕ) (after : List ℤ) (o : Option Guarded) : Type 0 where
+  pub answer : o ≡ cond (fits_by t r B cs ms) (Some (report_by t r B cs ms)) None
   pub left : fits_by t r B cs ms ≡ true → after ≡ levels_by t.log2 B ms
