@@ -1,12 +1,11 @@
 -- A text put into a buffer byte by byte, and one text behind another.
--- Assumes nothing.
 use mathlib.Core.Path.{◌≡◌, refl, sym, ap, ◌∙◌}
 use mathlib.Core.List.{List, [], ◌∷◌, ◌++◌, append_assoc}
-use Prim.Native.Nat.{ℕ, suc, ◌+◌, ◌≤◌, ◌<◌}
+use Prim.Native.Nat.{ℕ, ◌+◌, ◌≤◌, ◌<◌}
 use native.Mathlib.Numerals.{add-one}
 use native.Mathlib.Omega.{arith}
-use lib.ListN.{length, take, drop, set, get_or, length-append, length-take, length-drop, take-append-drop}
-use lib.Seq.{length-take-le, take-suc, take_all, set_split, take-append_seam, drop-append-add, drop-drop}
+use lib.ListN.{length, take, drop, set, length-append, length-take, length-drop, take-append-drop}
+use lib.Seq.{length-take-le, set_split, take-append_seam, drop-append-add, drop-drop}
 use Rattle.text.specs.Text.{Put}
 
 module _ (before : List ℕ) (at most : ℕ) where
@@ -66,19 +65,3 @@ pub put_last : (before t mid : List ℕ) (at d m r most : ℕ) → at + length t
 put_last before t mid at d m r most h k p =
     put_both before t (d ∷ []) mid (set mid r d) at m r 1 (r + 1) most (omega arith) (omega arith) p
     (put_byte mid r 1 d (omega (arith, p.next, kept before t mid at m r (omega arith) p)) (omega arith))
-
--- ---- the first bytes of a word
-module _ (before word : List ℕ) (at i : ℕ) where
-  pub put_next : (mid : List ℕ) → at + length word ≤ length before → i < length word
-      → Put before at (take i word) (length word) mid (at + i)
-      → Put before at (take (i + 1) word) (length word) (set mid (at + i) (get_or word i 0)) (at + (i + 1))
-  put_next mid h k p =
-      let long : length (take i word) ≡ i = length-take-le i word (omega arith) in
-      let end : at + suc i ≡ at + i + 1 = omega arith in
-      rw (add-one i, take-suc word i 0, end)
-      (put_last before (take i word) mid at (get_or word i 0) (length word) (at + i) (length word) (omega arith)
-      (omega arith) p)
-
-  pub put_whole : (after : List ℕ) → length word ≤ i → Put before at (take i word) (length word) after (at + i)
-      → Put before at word (length word) after (at + i)
-  put_whole after h p = rw (take_all i word h) at p

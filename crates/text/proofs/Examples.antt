@@ -1,5 +1,4 @@
 -- The definitions at some numbers: the ends of the ranges.
--- Assumes nothing.
 use mathlib.Core.Path.{◌≡◌, refl}
 use Prim.Native.Nat.{◌-◌, ◌^◌}
 use lib.IntN.{negsuc}

@@ -1,6 +1,5 @@
 -- A number as it is printed: its last digit behind those of a tenth of it, in the text and in the buffer; a sample is
 -- its magnitude, behind a `-` if it is negative.
--- Assumes nothing.
 use mathlib.Core.Path.{◌≡◌, refl, ap, subst}
 use mathlib.Core.Bool.{Bool, true, false, cond, true≢false}
 use mathlib.Core.List.{List, [], ◌∷◌, ◌++◌}

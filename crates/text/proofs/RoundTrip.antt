@@ -1,6 +1,6 @@
 -- A printed number is read back as itself, and a word that reads as a number is what printing that number gives: no
 -- number has two texts.
--- Assumes nothing.
+use Rattle.std.proofs.Common.{Option, Some, None}
 use mathlib.Core.Path.{◌≡◌, refl, sym, ap, subst, ◌∙◌}
 use mathlib.Core.Bool.{Bool, true, false, not, ◌&&◌, ◌||◌, cond, true≢false}
 use mathlib.Core.List.{List, [], ◌∷◌, ◌++◌, append-nil}
@@ -15,9 +15,6 @@ use lib.Seq.{append_snoc}
 use mir.Syntax.{w16}
 use mir.Val.{SFits}
 use Rattle.integers.proofs.Tests.{both}
-use Rattle.numerals.specs.declared.number.Natural.{Natural}
-use Rattle.numerals.specs.declared.number.Natural.TheVariants as naturals
-use Rattle.numerals.specs.declared.number.Sample.TheVariants as samples
 use Rattle.numerals.specs.Number.{is_digit, digits, is_empty, natural, value_from, value_of, natural_up_to, negative_of}
 use Rattle.numerals.specs.Number.{positive_of, sample_of}
 use Rattle.numerals.proofs.Reading.{a_digit}
@@ -114,7 +111,7 @@ pub printed_natural : (n : ℕ) → natural (printed n) ≡ true
 printed_natural zero = zero_natural
 printed_natural (suc m) = proper_natural (printed (suc m)) (proper_printed (suc m) (omega arith))
 
-pub read_back_lem : (limit n : ℕ) → n ≤ limit → natural_up_to limit (printed n) ≡ naturals.Is n
+pub read_back_lem : (limit n : ℕ) → n ≤ limit → natural_up_to limit (printed n) ≡ Some n
 unfolding natural_up_to
 read_back_lem limit n h = rw (printed_natural n, printed_value n, le-leb n limit h) refl
 
@@ -162,11 +159,11 @@ one_text (b ∷ c ∷ w) h =
     above_zero : (b : ℕ) → 48 ≤ b → (b ≡ 48 → ⊥) → 1 ≤ 10 * 0 + (b - 48)
     above_zero b h k = omega arith
 
-pub read_text_lem : (limit n : ℕ) (w : List ℕ) → natural_up_to limit w ≡ naturals.Is n → w ≡ printed n
+pub read_text_lem : (limit n : ℕ) (w : List ℕ) → natural_up_to limit w ≡ Some n → w ≡ printed n
 unfolding natural_up_to
 read_text_lem limit n w e = go (natural w) (leb (value_of w) limit) refl e
   where
-    go : (a b : Bool) → natural w ≡ a → cond (a && b) (naturals.Is (value_of w)) naturals.Malformed ≡ naturals.Is n
+    go : (a b : Bool) → natural w ≡ a → cond (a && b) (Some (value_of w)) None ≡ Some n
         → w ≡ printed n
     go true true q p = let same : value_of w ≡ n = cc in sym (one_text w q) ∙ ap printed same
     go true false q p = absurd (let no : ◌≡◌ {A = ℕ} 0 1 = cc in let none : ⊥ = omega arith in none)
@@ -181,41 +178,41 @@ natural_led (b ∷ w) h =
     let d = a_digit_is b (both (is_digit b) (digits w) p.1).0 in
     (λ e. let no : ⊥ = omega arith in no, λ e. let no : ⊥ = omega arith in no)
 
-pub sample_read_back : (z : ℤ) → SFits w16 z → sample_of (printed_sample z) ≡ samples.Is z
+pub sample_read_back : (z : ℤ) → SFits w16 z → sample_of (printed_sample z) ≡ Some z
 unfolding printed_sample sample_of positive_of negative_of
 sample_read_back (pos n) f =
     let small : n < 32768 = f.sfits in
     let s = natural_led (printed n) (printed_natural n) in
-    plain (printed n) s.0 s.1 ∙ ap positive_of (read_back_lem 32767 n (omega arith))
+    plain (printed n) (omega (arith, s.0)) s.1 ∙ ap positive_of (read_back_lem 32767 n (omega arith))
 sample_read_back (negsuc n) f =
     let small : n < 32768 = f.sfits in
     ap negative_of (read_back_lem 32768 (suc n) (omega arith)) ∙ rw (eqb-suc-zero n) refl
 
-minus_text : (w : List ℕ) (z : ℤ) (r : Natural) → natural_up_to 32768 w ≡ r → negative_of r ≡ samples.Is z
+minus_text : (w : List ℕ) (z : ℤ) (r : Option ℕ) → natural_up_to 32768 w ≡ r → negative_of r ≡ Some z
     → 45 ∷ w ≡ printed_sample z
 unfolding printed_sample negative_of
-minus_text w z (naturals.Is zero) e p = absurd (let no : ◌≡◌ {A = ℕ} 0 1 = cc in let none : ⊥ = omega arith in none)
-minus_text w z (naturals.Is (suc m)) e p =
-    let same : samples.Is (negsuc m) ≡ samples.Is z = rw (eqb-suc-zero m) at p in
+minus_text w z (Some zero) e p = absurd (let no : ◌≡◌ {A = ℕ} 0 1 = cc in let none : ⊥ = omega arith in none)
+minus_text w z (Some (suc m)) e p =
+    let same : Some (negsuc m) ≡ Some z = rw (eqb-suc-zero m) at p in
     let number : negsuc m ≡ z = cc in
     subst (λ (y : ℤ). 45 ∷ w ≡ printed_sample y) number (ap (λ (l : List ℕ). 45 ∷ l) (read_text_lem 32768 (suc m) w e))
-minus_text w z naturals.Malformed e p = absurd (let no : ◌≡◌ {A = ℕ} 0 1 = cc in let none : ⊥ = omega arith in none)
+minus_text w z None e p = absurd (let no : ◌≡◌ {A = ℕ} 0 1 = cc in let none : ⊥ = omega arith in none)
 
-plain_text : (w : List ℕ) (z : ℤ) (r : Natural) → natural_up_to 32767 w ≡ r → positive_of r ≡ samples.Is z
+plain_text : (w : List ℕ) (z : ℤ) (r : Option ℕ) → natural_up_to 32767 w ≡ r → positive_of r ≡ Some z
     → w ≡ printed_sample z
 unfolding printed_sample positive_of
-plain_text w z (naturals.Is n) e p =
+plain_text w z (Some n) e p =
     let number : pos n ≡ z = cc in subst (λ (y : ℤ). w ≡ printed_sample y) number (read_text_lem 32767 n w e)
-plain_text w z naturals.Malformed e p = absurd (let no : ◌≡◌ {A = ℕ} 0 1 = cc in let none : ⊥ = omega arith in none)
+plain_text w z None e p = absurd (let no : ◌≡◌ {A = ℕ} 0 1 = cc in let none : ⊥ = omega arith in none)
 
-pub sample_text : (w : List ℕ) (z : ℤ) → sample_of w ≡ samples.Is z → w ≡ printed_sample z
+pub sample_text : (w : List ℕ) (z : ℤ) → sample_of w ≡ Some z → w ≡ printed_sample z
 unfolding sample_of
 sample_text [] z e = absurd (let no : ◌≡◌ {A = ℕ} 0 1 = cc in let none : ⊥ = omega arith in none)
 sample_text (b ∷ w) z e = go (eqb b 45) refl e
   where
     go : (t : Bool) → eqb b 45 ≡ t
         → cond t (negative_of (natural_up_to 32768 w)) (positive_of (natural_up_to 32767 (b ∷ w)))
-        ≡ samples.Is z
+        ≡ Some z
         → b ∷ w ≡ printed_sample z
     go true q p = ap (λ (c : ℕ). c ∷ w) (eqb-true b 45 q) ∙ minus_text w z (natural_up_to 32768 w) refl p
     go false q p = plain_text (b ∷ w) z (natural_up_to 32767 (b ∷ w)) refl p

@@ -3,7 +3,7 @@
 // number has two texts (proofs/RoundTrip).
 #![tactic(auto)]
 
-ghost use Rattle.std.specs.Prelude.{◌≡◌, ◌+◌, ◌≤◌, nat_abs, length};
+ghost use Rattle.std.specs.Prelude.{◌≡◌, ◌+◌, ◌≤◌, length};
 ghost use Rattle.text.specs.Text.{printed, printed_sample, Put};
 
 // The digits of a tenth, and then the last.
@@ -20,23 +20,12 @@ pub fn put_natural(out: &mut [u8], at: usize, value: u64) -> usize
     end + 1
 }
 
-// -32768 has no negation in 16 bits.
-fn absolute(value: i16) -> u64
-    ensures { (result ≡ nat_abs value) × (result ≤ 32768) }
-{
-    if value < 0 {
-        (-(value as i32)) as u64
-    } else {
-        value as u64
-    }
-}
-
 // The magnitude, behind a `-` if the sample is negative.
 pub fn put_sample(out: &mut [u8], at: usize, value: i16) -> usize
     requires { at + 21 ≤ length out.old }
     ensures { Put out.old at (printed_sample value) 6 out.new result }
 {
-    let size = absolute(value);
+    let size = u64::from(value.unsigned_abs());
     if value < 0 {
         out[at] = b'-';
         return put_natural(out, at + 1, size);
@@ -48,10 +37,7 @@ pub fn put_word(out: &mut [u8], at: usize, word: &[u8]) -> usize
     requires { at + length word.now ≤ length out.old }
     ensures { Put out.old at word.now (length word.now) out.new result }
 {
-    let mut i = 0;
-    while i < word.len() {
-        out[at + i] = word[i];
-        i += 1;
-    }
-    at + i
+    let end = at + word.len();
+    out[at..end].copy_from_slice(word);
+    end
 }

@@ -1,5 +1,4 @@
--- `text::put_natural` meets its contract: it calls itself with a tenth of the number, and puts the last digit
--- behind those of the tenth.
+-- It calls itself with a tenth of the number, and puts the last digit behind those of the tenth.
 use Prim.Native.Nat.{◌/◌}
 use native.Mathlib.Omega.{arith}
 use Rattle.text.proofs.Printing.{few_digits, put_one, put_more}

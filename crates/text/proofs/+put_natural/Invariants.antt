@@ -1,5 +1,4 @@
--- `text::put_natural` meets its contract: it calls itself with a tenth of the number, and puts the last digit
--- behind those of the tenth.
+-- It calls itself with a tenth of the number.
 use Rattle.text.proofs.+put_natural.Given as goal
 
 abbrev pub decreases-put_natural : goal.decreases-put_natural

@@ -1,5 +1,5 @@
--- `text::put_sample` meets its contract: a `-` if the sample is negative, and its magnitude.
-use native.Mathlib.Omega.{arith}
+-- A `-` if the sample is negative, and its magnitude.
+use Rattle.std.proofs.Common.{◌∙◌, arith}
 use lib.ListN.{length-set}
 use Rattle.text.proofs.Printing.{put_minus, put_plain}
 use Rattle.text.proofs.put_sample.Goals as goal
@@ -9,11 +9,10 @@ put_natural-requires c = rw length-set (omega arith)
 
 pub returns-then-value-lt0 : goal.returns-then-value-lt0
 returns-then-value-lt0 c =
-    let m = c.absolute-size.ensures in
-    put_minus _ c.args.at _ _ _ m.1 c.args.value c.ranges.value m.0 c.if-value-lt0.true
-    (omega (arith, c.requires)) c.put_natural.ensures
+    put_minus _ c.args.at _ _ _ (omega arith) c.args.value c.ranges.value
+    (c.from-size.ensures ∙ c.unsigned_abs.ensures.value) c.if-value-lt0.true (omega arith) c.put_natural.ensures
 
 pub returns : goal.returns
 returns c =
-    let m = c.absolute-size.ensures in
-    put_plain _ _ _ _ _ m.1 c.args.value c.ranges.value m.0 c.if-value-lt0.false c.put_natural-2.ensures
+    put_plain _ _ _ _ _ (omega arith) c.args.value c.ranges.value
+    (c.from-size.ensures ∙ c.unsigned_abs.ensures.value) c.if-value-lt0.false c.put_natural-2.ensures
