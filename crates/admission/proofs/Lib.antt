@@ -1,2 +1,3 @@
-pub mod Asked
+pub mod Sides
 pub mod Stretches
+pub mod Groups

@@ -1,21 +1,19 @@
 -- The parts of a buffer that code lends for the three components: each is its component's stretch, and what a test of
 -- it says is what the residuals' fault of the component says.
--- Assumes nothing.
 use mathlib.Core.Path.{◌≡◌, ap, sym, ◌∙◌}
-use mathlib.Core.Bool.{Bool, ◌&&◌}
+use mathlib.Core.Bool.{true, false}
 use mathlib.Core.List.{List}
-use Prim.Native.Nat.{ℕ, ◌+◌, ◌-◌, ◌/◌}
+use Prim.Native.Nat.{ℕ, ◌+◌, ◌-◌, ◌*◌, ◌/◌, ◌^◌, ◌≤◌, ◌<◌}
 use native.Mathlib.Omega.{arith}
+use borrow.Author.Tests.{lt-ltb, le-ltb}
+use lib.Dec.{ltb}
 use lib.ListN.{take, drop}
 use lib.IntN.{ℤ}
-use Rattle.integers.specs.Tests.{some}
 use Rattle.refusals.specs.declared.Component.{Component}
 use Rattle.refusals.specs.declared.Component.TheVariants.{Y, U, «V»}
-use Rattle.transform.specs.Call.{wild, sample_fault}
 use Rattle.price.specs.declared.Costs.{Costs}
 use Rattle.components.specs.declared.Request.{Request}
-use Rattle.components.specs.Call.{requested, bit, runs, area, start, stretch, in_trans}
-use Rattle.components.proofs.Blocks.{sample_of_stretch}
+use Rattle.components.specs.Call.{requested, area, start, stretch}
 use Rattle.admission.specs.Inner.Tested.{Sizes, residuals, lent}
 
 -- how long the parts are
@@ -40,12 +38,12 @@ module _ (b : List ℤ) (t : Costs) (q : Request) (n : ℕ) (z : Sizes q.log2_lu
   stretch_is U = λ i. take (z.chroma i) (drop (z.luma i) b)
   stretch_is «V» = λ i. take (z.chroma i) (drop (z.luma i + z.chroma i) b)
 
-  -- what code tests of a part says of the component for which it is lent
-  pub sample_is : (k : Component) {r o : Bool} → r ≡ (bit k q.run && some wild (lent k n b)) → r ≡ o
-      → (in_trans k sample_fault).holds (requested b t q) ≡ o
-  unfolding requested runs
-  sample_is k f g =
-      sample_of_stretch k (requested b t q)
-      ∙ ap (λ (l : List ℤ). bit k q.run && some wild l) (sym (lent_is k n b ∙ stretch_is k))
-      ∙ sym f
-      ∙ g
+-- the room that the three stretches take
+room : (log2 n : ℕ) → Sizes log2 n → 2 ^ log2 * 2 ^ log2 * 3 / 2 ≡ n + n / 4 + n / 4
+room log2 n z = ap (λ (k : ℕ). k * 3 / 2) (sym z.luma) ∙ sym z.three
+
+pub short : (log2 n len : ℕ) → Sizes log2 n → len < n + n / 4 + n / 4 → ltb len (2 ^ log2 * 2 ^ log2 * 3 / 2) ≡ true
+short log2 n len z h = lt-ltb len (2 ^ log2 * 2 ^ log2 * 3 / 2) (omega (arith, room log2 n z))
+
+pub long : (log2 n len : ℕ) → Sizes log2 n → n + n / 4 + n / 4 ≤ len → ltb len (2 ^ log2 * 2 ^ log2 * 3 / 2) ≡ false
+long log2 n len z h = le-ltb len (2 ^ log2 * 2 ^ log2 * 3 / 2) (omega (arith, room log2 n z))

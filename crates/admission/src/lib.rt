@@ -1,30 +1,25 @@
 // The tests that come before any arithmetic: sides, settings, costs, length and residuals, of what is run.
 #![tactic(auto)]
 
-ghost use Rattle.std.specs.Prelude.{◌≡◌, ◌&&◌, List, ◌≤◌, ltb, ℤ};
+ghost use Rattle.std.specs.Prelude.{◌≡◌, Bool, ◌&&◌, List, ◌+◌, ◌/◌, ◌≤◌, length, ℤ};
 ghost use Rattle.integers.specs.Tests.{some};
+ghost use Rattle.refusals.specs.declared.Component.{Component};
+ghost use Rattle.refusals.specs.Three.{part_of};
 ghost use Rattle.refusals.specs.Faults.{verdict};
-ghost use Rattle.transform.specs.Call.{wild};
-ghost use Rattle.price.specs.Lambda.{lambda_refused};
 ghost use Rattle.price.specs.declared.Costs.{Costs};
 ghost use Rattle.price.specs.Costs.{costs_of};
 ghost use Rattle.refusals.specs.Sides.{most_log2};
 ghost use Rattle.components.specs.Call.{bit, requested};
 ghost use Rattle.components.specs.Inner.Groups.{settings_faults, buffer_faults};
-ghost use Rattle.admission.specs.Inner.Tested.{set_of, verdict_of, Sizes};
+ghost use Rattle.admission.specs.Inner.Tested.{tested, first_of, Sizes, residuals};
 
 use components::Request;
-use price::{Settings, costs_refused, lambda_refused};
-use refusals::{Component, Refusal};
+use price::{costs_refused, lambda_refused};
+use refusals::{Component, Refusal, Refused, Three};
 use transform::has_wild;
 
-#[derive(Drop)]
-pub enum Tested {
-    Passed,
-    Refused(Refusal, Component),
-}
-
 // Whether a component is run.
+#[tactic(auto, unfolding(components::specs::Call::bit))]
 pub fn is_run(run: u32, component: Component) -> bool
     ensures { result ≡ bit component run }
 {
@@ -35,77 +30,33 @@ pub fn is_run(run: u32, component: Component) -> bool
     }
 }
 
-pub fn settings_of(q: Request, component: Component) -> Settings
-    ensures { result ≡ set_of component q }
+// The first component that is run and of which the test holds is refused.
+fn refuse_first<F: Fn(Component) -> bool>(run: u32, why: Refusal, bad: F) -> Result<(), Refused>
+    requires { F.IsAlwaysCallable bad }
+    ensures { (test : Component → Bool) → ((k : Component) (b : Bool) → F.post bad k b → b ≡ test k)
+        → tested result ≡ first_of why (λ k. bit k run && test k) }
 {
-    match component {
-        Component::Y => q.y,
-        Component::U => q.u,
-        Component::V => q.v,
+    for component in [Component::Y, Component::U, Component::V] {
+        if is_run(run, component) && bad(component) {
+            return Err(Refused { why, component });
+        }
     }
-}
-
-fn bad_qp(q: Request, component: Component) -> bool
-    ensures { result ≡ (bit component q.run && ltb 63 (set_of component q).qp) }
-{
-    let s = settings_of(q, component);
-    if is_run(q.run, component) {
-        63 < s.qp
-    } else {
-        false
-    }
-}
-
-fn bad_lambda(q: Request, component: Component) -> bool
-    ensures { result ≡ (bit component q.run && lambda_refused (set_of component q).lambda) }
-{
-    let s = settings_of(q, component);
-    if is_run(q.run, component) {
-        lambda_refused(s.lambda)
-    } else {
-        false
-    }
-}
-
-fn bad_residuals(q: Request, component: Component, part: &[i16]) -> bool
-    ensures { result ≡ (bit component q.run && some wild part.now) }
-{
-    if is_run(q.run, component) {
-        has_wild(part)
-    } else {
-        false
-    }
+    Ok(())
 }
 
 // 1; 2 for Y, U, V; 3 likewise.
-pub fn test_settings(q: Request) -> Tested
-    ensures { (l : List ℤ) (t : Costs) → verdict_of result ≡ verdict settings_faults (requested l t q) }
+pub fn test_settings(q: Request) -> Result<(), Refused>
+    ensures { (l : List ℤ) (t : Costs) → tested result ≡ verdict settings_faults (requested l t q) }
 {
-    if q.log2_luma < 2 {
-        return Tested::Refused(Refusal::Side, Component::Y);
+    if q.log2_luma < 2 || 5 < q.log2_luma {
+        return Err(Refused::from(Refusal::Side));
     }
-    if 5 < q.log2_luma {
-        return Tested::Refused(Refusal::Side, Component::Y);
-    }
-    if bad_qp(q, Component::Y) {
-        return Tested::Refused(Refusal::Qp, Component::Y);
-    }
-    if bad_qp(q, Component::U) {
-        return Tested::Refused(Refusal::Qp, Component::U);
-    }
-    if bad_qp(q, Component::V) {
-        return Tested::Refused(Refusal::Qp, Component::V);
-    }
-    if bad_lambda(q, Component::Y) {
-        return Tested::Refused(Refusal::Lambda, Component::Y);
-    }
-    if bad_lambda(q, Component::U) {
-        return Tested::Refused(Refusal::Lambda, Component::U);
-    }
-    if bad_lambda(q, Component::V) {
-        return Tested::Refused(Refusal::Lambda, Component::V);
-    }
-    Tested::Passed
+    refuse_first(q.run, Refusal::Qp, |k| 63 < q.settings.of(k).qp)?;
+    refuse_first(
+        q.run,
+        Refusal::Lambda,
+        |k| lambda_refused(q.settings.of(k).lambda),
+    )
 }
 
 // How many places luma's block has.
@@ -121,29 +72,33 @@ pub fn luma_places(log2: usize) -> usize
     }
 }
 
+// The stretches of a buffer in which luma has n places: Y's, then U's, then V's.
+pub fn stretches_of(buffer: &[i16], n: usize) -> Three<&[i16]>
+    requires { (n ≤ 1024) × (n + n / 4 + n / 4 ≤ length buffer.now) }
+    ensures { (k : Component) → (part_of k result).now ≡ residuals k n buffer.now }
+{
+    let (y, chroma) = buffer.split_at(n);
+    let (u, rest) = chroma.split_at(n / 4);
+    Three {
+        y,
+        u,
+        v: &rest[..n / 4],
+    }
+}
+
 // 4; 5; 6 for Y, U, V.
-pub fn test_buffer(buffer: &[i16], costs: &[u64; 28], q: Request) -> Tested
+pub fn test_buffer(buffer: &[i16], costs: &[u64; 28], q: Request) -> Result<(), Refused>
     requires { (2 ≤ q.log2_luma) × (q.log2_luma ≤ most_log2) }
-    ensures { verdict_of result
+    ensures { tested result
         ≡ verdict buffer_faults (requested buffer.now (costs_of costs.now) q) }
 {
     if costs_refused(costs) {
-        return Tested::Refused(Refusal::Cost, Component::Y);
+        return Err(Refused::from(Refusal::Cost));
     }
     let n = luma_places(q.log2_luma);
-    let u_end = n + n / 4;
-    let v_end = u_end + n / 4;
-    if buffer.len() < v_end {
-        return Tested::Refused(Refusal::Length, Component::Y);
+    if buffer.len() < n + n / 4 + n / 4 {
+        return Err(Refused::from(Refusal::Length));
     }
-    if bad_residuals(q, Component::Y, &buffer[0..n]) {
-        return Tested::Refused(Refusal::Sample, Component::Y);
-    }
-    if bad_residuals(q, Component::U, &buffer[n..u_end]) {
-        return Tested::Refused(Refusal::Sample, Component::U);
-    }
-    if bad_residuals(q, Component::V, &buffer[u_end..v_end]) {
-        return Tested::Refused(Refusal::Sample, Component::V);
-    }
-    Tested::Passed
+    let parts = stretches_of(buffer, n);
+    refuse_first(q.run, Refusal::Sample, |k| has_wild(parts.of(k)))
 }

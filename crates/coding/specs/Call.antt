@@ -5,9 +5,8 @@ use Rattle.refusals.specs.declared.Refused.{Refused}
 use Rattle.refusals.specs.declared.Component.{Component}
 use Rattle.refusals.specs.declared.Refusal.TheVariants.{Side, Qp, Lambda, Cost, Length, Sample, Level, Price}
 use Rattle.refusals.specs.declared.Refusal.TheVariants.{Distortion}
-use Rattle.refusals.specs.Numbers.{number_of, component_of}
 use Rattle.refusals.specs.Sides.{most_log2}
-use Rattle.refusals.specs.Faults.{Fault, of_none, outside, Outcome, accepted, refused, verdict, answering, if_accepted, outcome_by}
+use Rattle.refusals.specs.Faults.{Fault, of_none, outside, Outcome, accepted, verdict, answering, if_accepted, outcome_by}
 use Rattle.price.specs.Lambda.{lambda_refused}
 use Rattle.price.specs.Level.{nearest}
 use Rattle.price.specs.Costs.{cost_refused}

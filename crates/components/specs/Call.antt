@@ -6,9 +6,9 @@ use Rattle.refusals.specs.declared.Three.{Three}
 use Rattle.refusals.specs.declared.Component.{Component}
 use Rattle.refusals.specs.declared.Component.TheVariants.{Y, U, «V»}
 use Rattle.refusals.specs.declared.Refusal.TheVariants.{Side, Cost, Length}
-use Rattle.refusals.specs.Numbers.{number_of, component_of}
+use Rattle.refusals.specs.Numbers.{component_of}
 use Rattle.refusals.specs.Sides.{most_log2}
-use Rattle.refusals.specs.Faults.{Fault, of_none, outside, Outcome, accepted, refused, verdict, answering, if_accepted, outcome_by}
+use Rattle.refusals.specs.Faults.{Fault, of_none, outside, Outcome, accepted, verdict, answering, if_accepted, outcome_by}
 use Rattle.transform.specs.Coefficients.{coefficients}
 use Rattle.transform.specs.Call.{Trans}
 use Rattle.transform.specs.Call as trans

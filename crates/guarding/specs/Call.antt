@@ -8,8 +8,7 @@ use Rattle.refusals.specs.Three.{part_of}
 use Rattle.refusals.specs.declared.Component.{Component}
 use Rattle.refusals.specs.declared.Component.TheVariants.{Y, U, «V»}
 use Rattle.refusals.specs.declared.Refusal.TheVariants.{Height}
-use Rattle.refusals.specs.Numbers.{number_of, component_of}
-use Rattle.refusals.specs.Faults.{Fault, Outcome, accepted, refused, verdict, answering, if_accepted, outcome_by}
+use Rattle.refusals.specs.Faults.{Fault, Outcome, accepted, verdict, answering, if_accepted, outcome_by}
 use Rattle.tables.specs.Scales.{back}
 use Rattle.transform.specs.Call as trans
 use Rattle.price.specs.declared.Costs.{Costs}

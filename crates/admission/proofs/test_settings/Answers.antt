@@ -1,115 +1,30 @@
--- `admission::test_settings` meets its contract: each return is the first of the list whose test came out true, and
--- behind each test the list is past up to there.
-use mathlib.Core.Path.{sym, ◌∙◌}
-use Rattle.refusals.proofs.Prefix.{untested, past, refused_past, accepted_past}
-use Rattle.components.specs.Call.{requested, runs, quant_of}
-use Rattle.components.specs.Inner.Groups.{settings_faults}
-use Rattle.admission.proofs.Asked.{log2_low, log2_high, log2_fine}
+-- `admission::test_settings` meets its contract: the side is tested, and then what is run, by its qp and its lambda.
+use mathlib.Core.Logic.{inl, inr}
+use lib.Dec.{ltb}
+use Rattle.std.proofs.Common.{rules}
+use Rattle.std.proofs.lemmas.Result.{err_from_is_err_and}
+use Rattle.refusals.specs.Three.{part_of}
+use Rattle.price.specs.Lambda.{lambda_refused}
+use Rattle.admission.proofs.Sides.{log2_low, log2_high, log2_fine}
+use Rattle.admission.proofs.Groups.{side_refused, qp_refused, lambda_left}
 use Rattle.admission.proofs.test_settings.Goals as goal
 
--- ---- the log2 side, by two tests
 pub returns-then-q-lt2 : goal.returns-then-q-lt2
-unfolding settings_faults requested
-returns-then-q-lt2 c l t = sym (refused_past untested (log2_low _ c.if-q-lt2.true))
+returns-then-q-lt2 c l t =
+    rw c.from.ensures (elim c.then-q-lt2.either [
+      | inl h ↦ side_refused l t c.args.q (log2_low _ h)
+      | inr h ↦ side_refused l t c.args.q (log2_high _ h.1)
+    ])
 
-pub returns-then-q-gt5 : goal.returns-then-q-gt5
-unfolding settings_faults requested
-returns-then-q-gt5 c l t = sym (refused_past untested (log2_high _ c.if-q-gt5.true))
-
--- ---- what is run
-pub returns-then-bad_qp : goal.returns-then-bad_qp
-unfolding settings_faults requested runs quant_of
-returns-then-bad_qp c l t =
-    sym
-    (refused_past
-    (past untested (log2_fine _ c.if-q-lt2.false c.if-q-gt5.false))
-    (sym c.bad_qp.ensures ∙ c.if-bad_qp.true))
-
-pub returns-then-bad_qp-2 : goal.returns-then-bad_qp-2
-unfolding settings_faults requested runs quant_of
-returns-then-bad_qp-2 c l t =
-    sym
-    (refused_past
-    (past
-    (past untested (log2_fine _ c.if-q-lt2.false c.if-q-gt5.false))
-    (sym c.bad_qp.ensures ∙ c.if-bad_qp.false))
-    (sym c.bad_qp-2.ensures ∙ c.if-bad_qp-2.true))
-
-pub returns-then-bad_qp-3 : goal.returns-then-bad_qp-3
-unfolding settings_faults requested runs quant_of
-returns-then-bad_qp-3 c l t =
-    sym
-    (refused_past
-    (past
-    (past
-    (past untested (log2_fine _ c.if-q-lt2.false c.if-q-gt5.false))
-    (sym c.bad_qp.ensures ∙ c.if-bad_qp.false))
-    (sym c.bad_qp-2.ensures ∙ c.if-bad_qp-2.false))
-    (sym c.bad_qp-3.ensures ∙ c.if-bad_qp-3.true))
-
-pub returns-then-bad_lambda : goal.returns-then-bad_lambda
-unfolding settings_faults requested runs quant_of
-returns-then-bad_lambda c l t =
-    sym
-    (refused_past
-    (past
-    (past
-    (past
-    (past untested (log2_fine _ c.if-q-lt2.false c.if-q-gt5.false))
-    (sym c.bad_qp.ensures ∙ c.if-bad_qp.false))
-    (sym c.bad_qp-2.ensures ∙ c.if-bad_qp-2.false))
-    (sym c.bad_qp-3.ensures ∙ c.if-bad_qp-3.false))
-    (sym c.bad_lambda.ensures ∙ c.if-bad_lambda.true))
-
-pub returns-then-bad_lambda-2 : goal.returns-then-bad_lambda-2
-unfolding settings_faults requested runs quant_of
-returns-then-bad_lambda-2 c l t =
-    sym
-    (refused_past
-    (past
-    (past
-    (past
-    (past
-    (past untested (log2_fine _ c.if-q-lt2.false c.if-q-gt5.false))
-    (sym c.bad_qp.ensures ∙ c.if-bad_qp.false))
-    (sym c.bad_qp-2.ensures ∙ c.if-bad_qp-2.false))
-    (sym c.bad_qp-3.ensures ∙ c.if-bad_qp-3.false))
-    (sym c.bad_lambda.ensures ∙ c.if-bad_lambda.false))
-    (sym c.bad_lambda-2.ensures ∙ c.if-bad_lambda-2.true))
-
-pub returns-then-bad_lambda-3 : goal.returns-then-bad_lambda-3
-unfolding settings_faults requested runs quant_of
-returns-then-bad_lambda-3 c l t =
-    sym
-    (refused_past
-    (past
-    (past
-    (past
-    (past
-    (past
-    (past untested (log2_fine _ c.if-q-lt2.false c.if-q-gt5.false))
-    (sym c.bad_qp.ensures ∙ c.if-bad_qp.false))
-    (sym c.bad_qp-2.ensures ∙ c.if-bad_qp-2.false))
-    (sym c.bad_qp-3.ensures ∙ c.if-bad_qp-3.false))
-    (sym c.bad_lambda.ensures ∙ c.if-bad_lambda.false))
-    (sym c.bad_lambda-2.ensures ∙ c.if-bad_lambda-2.false))
-    (sym c.bad_lambda-3.ensures ∙ c.if-bad_lambda-3.true))
+pub returns-in_err-refuse_first : goal.returns-in_err-refuse_first
+returns-in_err-refuse_first c l t =
+    let p = err_from_is_err_and c.from_residual.result c.from_residual.ensures.1 in
+    rw (p.1, p.2)
+    (qp_refused l t c.args.q (log2_fine _ c.if-q-lt2.false c.if-q-gt5.false)
+    (c.in_err-refuse_first.ensures (λ k. ltb 63 (part_of k c.args.q.settings).qp) (λ k b h. search rules)))
 
 pub returns : goal.returns
-unfolding settings_faults requested runs quant_of
 returns c l t =
-    sym
-    (accepted_past
-    (past
-    (past
-    (past
-    (past
-    (past
-    (past
-    (past untested (log2_fine _ c.if-q-lt2.false c.if-q-gt5.false))
-    (sym c.bad_qp.ensures ∙ c.if-bad_qp.false))
-    (sym c.bad_qp-2.ensures ∙ c.if-bad_qp-2.false))
-    (sym c.bad_qp-3.ensures ∙ c.if-bad_qp-3.false))
-    (sym c.bad_lambda.ensures ∙ c.if-bad_lambda.false))
-    (sym c.bad_lambda-2.ensures ∙ c.if-bad_lambda-2.false))
-    (sym c.bad_lambda-3.ensures ∙ c.if-bad_lambda-3.false)))
+    lambda_left l t c.args.q (log2_fine _ c.if-q-lt2.false c.if-q-gt5.false)
+    (c.in_ok-refuse_first.ensures (λ k. ltb 63 (part_of k c.args.q.settings).qp) (λ k b h. search rules))
+    (c.refuse_first-2.ensures (λ k. lambda_refused (part_of k c.args.q.settings).lambda) (λ k b h. search rules))

@@ -1,24 +1,24 @@
--- What the tests that come before any arithmetic say to the code behind them: an answer as a verdict, the settings of a
--- component in a request, and how long the three stretches are and where they stand. The faults themselves are those of
+-- What the tests that come before any arithmetic say to the code behind them: an answer as a verdict, the first component
+-- of which a test holds, and how long the three stretches are and where they stand. The faults themselves are those of
 -- the call's definition, in its groups.
-use Rattle.std.specs.Prelude.{◌≡◌, List, ℕ, ◌+◌, ◌-◌, ◌*◌, ◌/◌, ◌^◌, ◌≤◌, take, drop, ℤ}
+use Rattle.std.specs.Prelude.{◌≡◌, Bool, cond, List, [], ◌∷◌, ℕ, ◌+◌, ◌-◌, ◌*◌, ◌/◌, ◌^◌, ◌≤◌, take, drop, ℤ, Result}
+use Rattle.refusals.specs.declared.Refusal.{Refusal}
+use Rattle.refusals.specs.declared.Refused.{Refused}
 use Rattle.refusals.specs.declared.Component.{Component}
 use Rattle.refusals.specs.declared.Component.TheVariants.{Y, U, «V»}
 use Rattle.refusals.specs.Numbers.{number_of, component_of}
-use Rattle.refusals.specs.Faults.{Outcome, passed, refused}
-use Rattle.price.specs.declared.Settings.{Settings}
-use Rattle.components.specs.declared.Request.{Request}
-use Rattle.admission.specs.declared.Tested.{Tested}
-use Rattle.admission.specs.declared.Tested.TheVariants.{Passed, Refused}
+use Rattle.refusals.specs.Faults.{Outcome, passed, refused, outcome_by}
 
-abbrev pub verdict_of : Tested → Outcome Unit
-verdict_of Passed = passed
-verdict_of (Refused why k) = refused (number_of why) (component_of k)
+abbrev pub tested : Result Unit Refused → Outcome Unit
+tested = outcome_by (λ u. u)
 
-abbrev pub set_of : Component → Request → Settings
-set_of Y q = q.y
-set_of U q = q.u
-set_of «V» q = q.v
+-- the first component of a list of which a test holds is refused; and the first of Y, U and V
+abbrev pub first_in : Refusal → (Component → Bool) → List Component → Outcome Unit
+first_in why test [] = passed
+first_in why test (k ∷ ks) = cond (test k) (refused (number_of why) (component_of k)) (first_in why test ks)
+
+abbrev pub first_of : Refusal → (Component → Bool) → Outcome Unit
+first_of why test = first_in why test (Y ∷ U ∷ «V» ∷ [])
 
 -- n is the number of luma's places: what it and its quarter are, and that the three stretches are 3/2 of it
 pub record Sizes (log2 n : ℕ) : Type 0 where

@@ -1,7 +1,6 @@
--- What a test that code makes says of a fault: of luma's log2 side, and of a component that is run or is not.
--- Assumes nothing.
+-- What code's test of luma's log2 side says of the fault: below 2, above 5, or neither.
 use mathlib.Core.Path.{◌≡◌, refl}
-use mathlib.Core.Bool.{Bool, true, false, not, ◌&&◌, ◌||◌, true≢false}
+use mathlib.Core.Bool.{Bool, true, false, not, ◌&&◌, ◌||◌}
 use Prim.Native.Nat.{ℕ, ◌<◌, ◌≤◌}
 use borrow.Author.Tests.{lt-leb}
 use lib.Dec.{leb}
@@ -29,12 +28,3 @@ module _ (n : ℕ) where
 
   pub log2_fine : 2 ≤ n → n ≤ most_log2 → (outside 2 most_log2 n || outside 2 most_log2 n) ≡ false
   log2_fine a b = rw (not_outside 2 most_log2 n a b)
-
--- a test that is made of what is run
-pub asked : (run test : Bool) → run ≡ true → test ≡ (run && test)
-asked true test e = refl
-asked false test e = absurd (true≢false (mathlib.Core.Path.sym e))
-
-pub not_asked : (run test : Bool) → run ≡ false → false ≡ (run && test)
-not_asked true test e = absurd (true≢false e)
-not_asked false test e = refl
