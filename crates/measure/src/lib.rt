@@ -3,14 +3,14 @@
 // cite the definitions of `heights`.
 #![tactic(auto)]
 
-ghost use Rattle.std.specs.Prelude.{◌≡◌, ◌*◌, ◌^◌, ◌≤◌, max, length};
+ghost use Rattle.std.specs.Prelude.{◌≡◌, ◌*◌, ◌^◌, ◌≤◌, length};
 ghost use Rattle.refusals.specs.Sides.{most_log2};
 ghost use Rattle.tables.specs.Scales.{back};
 ghost use Rattle.heights.specs.Extremes.{above, darker, lighter, decoded, extremes};
 ghost use Rattle.heights.specs.Call.{lent, measure_answer, measure_outcome};
 
 use coefficients::skip::largest;
-use heights::{Extremes, MeasureAnswer};
+use heights::Extremes;
 use refusals::{Refusal, no_side, side};
 use rescale::rescale;
 use residuals::block::restore;
@@ -19,17 +19,7 @@ use residuals::block::restore;
 fn above(a: i16, b: i16) -> u16
     ensures { result ≡ above a b }
 {
-    if b < a {
-        (a as i32 - b as i32) as u16
-    } else {
-        0
-    }
-}
-
-fn larger(a: u16, b: u16) -> u16
-    ensures { result ≡ max a b }
-{
-    if a < b { b } else { a }
+    if b < a { a.abs_diff(b) } else { 0 }
 }
 
 // How far the samples lie apart at most, either way.
@@ -38,32 +28,15 @@ fn apart(residuals: &[i16], shown: &[i16]) -> Extremes
     ensures { (result.darker ≡ darker (length residuals.now) residuals.now shown.now)
         × (result.lighter ≡ lighter (length residuals.now) residuals.now shown.now) }
 {
-    let n = residuals.len();
-    let mut dark: u16 = 0;
-    let mut light: u16 = 0;
-    let mut i = 0;
-    while i < n {
-        let r = residuals[i];
-        let s = shown[i];
-        dark = larger(dark, above(r, s));
-        light = larger(light, above(s, r));
-        i += 1;
+    let mut darker: u16 = 0;
+    let mut lighter: u16 = 0;
+    for (r, s) in residuals.iter().zip(shown) {
+        darker = darker.max(above(*r, *s));
+        lighter = lighter.max(above(*s, *r));
     }
     Extremes {
-        darker: dark as u32,
-        lighter: light as u32,
-    }
-}
-
-pub fn copy(from: &[i16], to: &mut [i16])
-    requires { length from.now ≡ length to.old }
-    ensures { to.new ≡ from.now }
-{
-    let n = to.len();
-    let mut k = 0;
-    while k < n {
-        to[k] = from[k];
-        k += 1;
+        darker: u32::from(darker),
+        lighter: u32::from(lighter),
     }
 }
 
@@ -74,7 +47,7 @@ fn decode(levels: &[i16], shown: &mut [i16], log2_side: usize, qp: u32)
         × (length shown.old ≡ length levels.now) }
     ensures { shown.new ≡ decoded back log2_side qp levels.now }
 {
-    copy(levels, shown);
+    shown.copy_from_slice(levels);
     rescale(shown, log2_side, qp);
     restore(shown, log2_side, log2_side);
 }
@@ -101,26 +74,28 @@ pub fn look(
 }
 
 // The two extremes of the square block at the front of either list.
-pub fn measure(residuals: &[i16], levels: &[i16], log2_side: usize, qp: u32) -> MeasureAnswer
+pub fn measure(
+    residuals: &[i16],
+    levels: &[i16],
+    log2_side: usize,
+    qp: u32,
+) -> Result<Extremes, Refusal>
     ensures { measure_outcome result
         ≡ measure_answer (lent residuals.now levels.now log2_side qp) }
 {
     if no_side(log2_side) {
-        return MeasureAnswer::Refused(Refusal::Side);
+        return Err(Refusal::Side);
     }
     if 63 < qp {
-        return MeasureAnswer::Refused(Refusal::Qp);
+        return Err(Refusal::Qp);
     }
     let a = side(log2_side);
     let n = a * a;
-    if residuals.len() < n {
-        return MeasureAnswer::Refused(Refusal::Length);
-    }
-    if levels.len() < n {
-        return MeasureAnswer::Refused(Refusal::Length);
+    if residuals.len() < n || levels.len() < n {
+        return Err(Refusal::Length);
     }
     let mut shown = [0i16; 1024];
-    MeasureAnswer::Measured(look(
+    Ok(look(
         &residuals[..n],
         &levels[..n],
         &mut shown[..n],

@@ -1,40 +1,31 @@
 -- `measure::apart` meets its contract: the loop holds the two extremes of the places that it passed.
-use mathlib.Core.Path.{◌≡◌, refl, ap, ◌∙◌}
-use Prim.Native.Nat.{ℕ}
-use native.Mathlib.Omega.{arith}
-use borrow.Author.Rules.{rules}
-use lib.IntN.{ℤ}
-use mir.Syntax.{w16}
-use mir.Val.{SFits, to_z, of_z}
-use mir.Facts.{to_z-of_z}
-use Rattle.integers.specs.Sum.{at}
-use Rattle.heights.specs.Extremes.{above, darker, lighter}
+use mathlib.Core.Path.{◌≡◌, refl}
+use Rattle.std.proofs.Common.{arith, length}
+use Rattle.std.proofs.lemmas.Int.{to_z-of_z}
+use Rattle.std.proofs.lemmas.List.{length_push}
+use Rattle.std.proofs.lemmas.Slice.Zip.{zip_turn, zip_end}
+use lib.IntN.{pos}
+use Rattle.heights.specs.Extremes.{darker, lighter}
 use Rattle.measure.proofs.Differences.{darker_more, lighter_more}
 use Rattle.measure.proofs.apart.Goals as goal
 
-pub loop-i-init : goal.loop-i-init
+pub loop-r-init : goal.loop-r-init
 unfolding darker lighter
-loop-i-init c = (refl, refl, omega arith, omega arith, omega arith)
+loop-r-init c = (refl, refl)
 
--- two samples as the machine hands them on
-read : (f : ℤ → ℤ → ℕ) (residual decoded : ℤ) → SFits w16 residual → SFits w16 decoded
-    → f (to_z w16 (of_z w16 residual)) (to_z w16 (of_z w16 decoded)) ≡ f residual decoded
-read f residual decoded fr fd =
-    ap (λ (z : ℤ). f z (to_z w16 (of_z w16 decoded))) (to_z-of_z fr) ∙ ap (λ (z : ℤ). f residual z) (to_z-of_z fd)
+pub loop-r-preserved : goal.loop-r-preserved
+loop-r-preserved c =
+    let r = c.args.residuals.now in
+    let s = c.args.shown.now in
+    let l = c.loop-r in
+    let t = zip_turn r s l.yielded c.into_iter-r-iterator.result c.loop-r.r-iterator c.next.new.self _ (cc) (cc) l.yielded_by (c.in-Some.r, c.in-Some.s) c.in-Some.is c.next.ensures.steps in
+    let er = t.2 (pos 0) in
+    let es = t.3 (pos 0) in
+    let n = length_push l.yielded (c.in-Some.r, c.in-Some.s) in
+    grind (arith, to_z-of_z, darker_more, lighter_more)
 
-pub loop-i-preserved : goal.loop-i-preserved
-loop-i-preserved c =
-    let l = c.loop-i in
-    let a = c.args in
-    let r = at a.residuals.now l.i in
-    let s = at a.shown.now l.i in
-    let fr : SFits w16 r = search rules in
-    let fs : SFits w16 s = search rules in (
-      darker_more a.residuals.now a.shown.now l.i l.dark _ _ l.invariant.0
-          (c.above.ensures ∙ read above r s fr fs) c.larger-dark.ensures,
-      lighter_more a.residuals.now a.shown.now l.i l.light _ _ l.invariant.1
-          (c.above-in-loop-i.ensures ∙ read (λ (x y : ℤ). above y x) r s fr fs) c.larger-light.ensures,
-      omega (arith, c.larger-dark.type_inv),
-      omega (arith, c.larger-light.type_inv),
-      omega arith,
-    )
+pub returns : goal.returns
+returns c =
+    let e = zip_end c.args.residuals.now c.args.shown.now c.loop-r.yielded c.into_iter-r-iterator.result c.loop-r.r-iterator c.next.new.self _ (cc) (cc) c.loop-r.yielded_by c.in-None.is c.next.ensures.steps in
+    let long : length c.loop-r.yielded ≡ length c.args.residuals.now = omega arith in
+    (cc, cc)

@@ -12,6 +12,7 @@ use Rattle.heights.specs.Extremes.{extremes}
 use Rattle.measure.proofs.Faults.{no_square, no_qp, few_residuals, few_levels, no_fault, answers}
 use Rattle.measure.proofs.Front.{extremes_front}
 use Rattle.measure.proofs.measure.Goals as goal
+use Rattle.measure.proofs.measure.Goals.{then-residuals-n-via-then-residuals-n, then-residuals-n-via-else-residuals-n+then-levels-n}
 
 -- whether a list has as many places as the block, which the code counts as a · a
 counted : (r : List ℤ) (a l : ℕ) (b : Bool) → a ≡ 2 ^ l → ltb (length r) (a * a) ≡ b
@@ -33,22 +34,17 @@ pub returns-then-residuals-n : goal.returns-then-residuals-n
 returns-then-residuals-n c =
     let a = c.args in
     let r = a.residuals.now in
-    let square = sym c.no_side.ensures ∙ c.if-no_side.false in
-    let low = le-ltb 63 a.qp c.if-qp-gt63.false in
-    few_residuals r a.levels.now a.log2_side a.qp square low
-    (counted r c.side-a.result a.log2_side true c.side-a.ensures.0 (lt-ltb (length r) _ c.if-residuals-n.true))
-
-pub returns-then-levels-n : goal.returns-then-levels-n
-returns-then-levels-n c =
-    let a = c.args in
-    let r = a.residuals.now in
     let k = a.levels.now in
     let l = a.log2_side in
     let square = sym c.no_side.ensures ∙ c.if-no_side.false in
     let low = le-ltb 63 a.qp c.if-qp-gt63.false in
-    let long = counted r c.side-a.result l false c.side-a.ensures.0 (le-ltb (length r) _ c.if-residuals-n.false) in
-    few_levels r k l a.qp square low long
-    (counted k c.side-a.result l true c.side-a.ensures.0 (lt-ltb (length k) _ c.if-levels-n.true))
+    elim c.then-residuals-n.branch [
+      | then-residuals-n-via-then-residuals-n w ↦ few_residuals r k l a.qp square low
+          (counted r c.side-a.result l true c.side-a.ensures.0 (lt-ltb (length r) _ w.if-residuals-n.true))
+      | then-residuals-n-via-else-residuals-n+then-levels-n w ↦ few_levels r k l a.qp square low
+          (counted r c.side-a.result l false c.side-a.ensures.0 (le-ltb (length r) _ w.if-residuals-n.false))
+          (counted k c.side-a.result l true c.side-a.ensures.0 (lt-ltb (length k) _ w.if-levels-n.true))
+    ]
 
 pub returns : goal.returns
 returns c =
