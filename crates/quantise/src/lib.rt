@@ -9,12 +9,12 @@ ghost use Rattle.coding.specs.Call.{quant_outcome, quant_answer, quant_buffer};
 ghost use Rattle.quantise.specs.Inner.Early.{EarlyPassed};
 ghost use Rattle.quantise.specs.Inner.Skip.{Skippable, SkippedAs};
 
-use coding::{Coded, Coding, QuantAnswer};
+use coding::{Coded, Coding};
 use coefficients::distortion::{small_squares, uncoded};
 use coefficients::skip::{clear, largest, reaching};
 use contexts::{contexts_of, empty_price, prices_of};
 use price::{costs_of, costs_refused, lambda_refused, lambda_whole};
-use refusals::{Component, Refusal, no_side};
+use refusals::{Refusal, Refused, no_side};
 use rooms::code_levels;
 use scaling::scale::{Scale, rounded, scale_of, skip_threshold};
 
@@ -44,7 +44,7 @@ fn skip_block(block: &mut [i16], g: Scale, top: u32, empty: u64) -> Coded
 
 // A block that has its own part of the buffer, where refusals 1 to 5 are past. A coefficient of -32768 is never
 // skipped.
-fn code_block(block: &mut [i16], costs: &[u64; 28], coding: Coding) -> QuantAnswer
+fn code_block(block: &mut [i16], costs: &[u64; 28], coding: Coding) -> Result<Coded, Refused>
     requires { EarlyPassed block.old (costs_of costs.now) coding }
     ensures answer { quant_outcome result
         ≡ quant_answer (called block.old (costs_of costs.now) coding) }
@@ -60,53 +60,71 @@ fn code_block(block: &mut [i16], costs: &[u64; 28], coding: Coding) -> QuantAnsw
     let found = reaching(block, g.q, threshold);
     if !found.walked {
         let empty = empty_price(costs, at, lambda);
-        return QuantAnswer::Coded(skip_block(block, g, found.top, empty));
+        return Ok(skip_block(block, g, found.top, empty));
     }
     let top = largest(block);
     if top == 32768 {
-        return QuantAnswer::Refused(Refusal::Sample, component);
+        return Err(Refused {
+            why: Refusal::Sample,
+            component,
+        });
     }
     let m = rounded(g, top);
     if MOST_LEVEL < m {
-        return QuantAnswer::Refused(Refusal::Level, component);
+        return Err(Refused {
+            why: Refusal::Level,
+            component,
+        });
     }
     if 2199023255552 < lambda * (m + 1) {
-        return QuantAnswer::Refused(Refusal::Price, component);
+        return Err(Refused {
+            why: Refusal::Price,
+            component,
+        });
     }
     let d = uncoded(block, g);
     if 1152921504606846976 < d {
-        return QuantAnswer::Refused(Refusal::Distortion, component);
+        return Err(Refused {
+            why: Refusal::Distortion,
+            component,
+        });
     }
     let p = prices_of(costs_of(costs), at, lambda);
     let mode = coding.mode;
-    QuantAnswer::Coded(code_levels(block, coding.log2, p, g, d, mode))
+    Ok(code_levels(block, coding.log2, p, g, d, mode))
 }
 
 // evce_quant_nnz for a square block: the levels in place of the coefficients, their count and their price.
-pub fn quant_nnz(block: &mut [i16], costs: &[u64; 28], coding: Coding) -> QuantAnswer
+pub fn quant_nnz(block: &mut [i16], costs: &[u64; 28], coding: Coding) -> Result<Coded, Refused>
     ensures answer { quant_outcome result
         ≡ quant_answer (called block.old (costs_of costs.now) coding) }
     ensures buffer { block.new
         ≡ quant_buffer (called block.old (costs_of costs.now) coding) }
 {
     if no_side(coding.log2) {
-        return QuantAnswer::Refused(Refusal::Side, Component::Y);
+        return Err(Refusal::Side.into());
     }
     let component = coding.component;
     let settings = coding.settings;
     if 63 < settings.qp {
-        return QuantAnswer::Refused(Refusal::Qp, component);
+        return Err(Refused {
+            why: Refusal::Qp,
+            component,
+        });
     }
     if lambda_refused(settings.lambda) {
-        return QuantAnswer::Refused(Refusal::Lambda, component);
+        return Err(Refused {
+            why: Refusal::Lambda,
+            component,
+        });
     }
     if costs_refused(costs) {
-        return QuantAnswer::Refused(Refusal::Cost, Component::Y);
+        return Err(Refusal::Cost.into());
     }
     let one: usize = 1;
     let n = one << (2 * coding.log2 as u32);
     if block.len() < n {
-        return QuantAnswer::Refused(Refusal::Length, Component::Y);
+        return Err(Refusal::Length.into());
     }
     code_block(&mut block[..n], costs, coding)
 }

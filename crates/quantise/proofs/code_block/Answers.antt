@@ -32,7 +32,7 @@ use Rattle.coefficients.proofs.Small.{energy_at_most}
 use Rattle.quantise.proofs.Accepting.{each_small, all_few, all_fine, skipped_energy, held_is}
 use Rattle.quantise.proofs.Accepting.{held_beyond}
 use Rattle.quantise.proofs.Answer.{refused_answer, skipped_here, largest_here_lem, uncoded_here_lem, uncoded_is}
-use Rattle.quantise.proofs.Answer.{sample_here, level_here, price_here, distortion_here, past_early, late}
+use Rattle.quantise.proofs.Answer.{sample_here, level_here, price_here, distortion_here, past_early}
 use Rattle.quantise.proofs.Answer.{empty_here, skipped_d, skipped_answer, coded_answer}
 use Rattle.coding.specs.declared.Coding.{Coding}
 use Rattle.scaling.specs.declared.scale.Scale.{Scale}

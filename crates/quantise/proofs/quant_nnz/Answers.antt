@@ -1,5 +1,6 @@
 -- `quantise::quant_nnz` meets its contract: 1 to 5 in order, then the block in its part of the buffer.
-use mathlib.Core.Path.{◌≡◌, sym, ap, ◌∙◌}
+use mathlib.Core.Path.{◌≡◌, refl, sym, ap, ◌∙◌}
+use Rattle.std.specs.Prelude.{Err}
 use mathlib.Core.Bool.{true, false}
 use mathlib.Core.List.{List, ◌∷◌, ◌++◌}
 use Prim.Native.Nat.{ℕ, ◌*◌, ◌%◌, ◌^◌, ◌≤◌}
@@ -14,11 +15,14 @@ use Rattle.coding.specs.declared.Coding.{Coding}
 use lib.Seq.{length-take-le}
 use lib.IntN.{ℤ}
 use Rattle.refusals.specs.Sides.{most_log2}
-use Rattle.refusals.specs.Faults.{Fault, outside}
+use Rattle.refusals.specs.Faults.{Fault, outside, of_whole, refused}
+use Rattle.refusals.specs.Numbers.{number_of}
+use Rattle.refusals.specs.declared.Refusal.{Refusal}
+use Rattle.refusals.specs.declared.Refused.{Refused}
 use Rattle.refusals.proofs.First.{First, here, later, inside}
 use Rattle.coding.specs.Block.{Quant, called}
 use Rattle.coding.specs.Call.{quant_faults, side_fault, qp_fault, lambda_fault, cost_fault, length_fault, quant_answer}
-use Rattle.coding.specs.Call.{quant_buffer}
+use Rattle.coding.specs.Call.{quant_buffer, quant_outcome}
 use Rattle.coding.proofs.Surplus.{surplus_untested, surplus_carried}
 use Rattle.scaling.proofs.Scaling.{bit}
 use Rattle.quantise.proofs.Answer.{refused_answer, side_test, qp_high, qp_right, lambda_test, cost_test}
@@ -53,6 +57,10 @@ module _ (B : List ℤ) (t : Costs) (k : Coding) where
             → First asked f quant_faults
         past_4 priced h = past_3 (later (cost_test B t k false priced) h)
 
+-- what is said of a refusal of the call as a whole
+of_whole_is : (why : Refusal) (r : Refused) → r ≡ of_whole why → quant_outcome (Err r) ≡ refused (number_of why) 0
+of_whole_is why r e = rw e refl
+
 pub returns-then-no_side : goal.returns-then-no_side
 unfolding called quant_faults side_fault
 returns-then-no_side c =
@@ -60,7 +68,7 @@ returns-then-no_side c =
     let t = costs_of c.args.costs.now in
     let e = refused_answer (called B t c.args.coding)
     (here (side_test B t c.args.coding true (sym c.no_side.ensures ∙ c.if-no_side.true))) in
-    record { answer = sym e.0; buffer = sym e.1 }
+    record { answer = of_whole_is _ _ c.into.ensures ∙ sym e.0; buffer = sym e.1 }
 
 pub returns-then-settings-gt63 : goal.returns-then-settings-gt63
 unfolding called qp_fault
@@ -93,7 +101,7 @@ returns-then-costs_refused c =
     (past_3 B t k (sym c.no_side.ensures ∙ c.if-no_side.false) c.if-settings-gt63.false
     (sym c.lambda_refused.ensures ∙ c.if-lambda_refused.false)
     (here (cost_test B t k true (sym c.costs_refused.ensures ∙ c.if-costs_refused.true)))) in
-    record { answer = sym e.0; buffer = sym e.1 }
+    record { answer = of_whole_is _ _ c.into-then-costs_refused.ensures ∙ sym e.0; buffer = sym e.1 }
 
 -- log2 of an accepted side
 within : (log2 : ℕ) → outside 1 most_log2 log2 ≡ false → (1 ≤ log2) × (log2 ≤ most_log2)
@@ -124,7 +132,7 @@ returns-then-block-n c =
     let e = refused_answer (called B t k)
     (past_4 B t k sided c.if-settings-gt63.false (sym c.lambda_refused.ensures ∙ c.if-lambda_refused.false)
     (sym c.costs_refused.ensures ∙ c.if-costs_refused.false) (here low)) in
-    record { answer = sym e.0; buffer = sym e.1 }
+    record { answer = of_whole_is _ _ c.into-then-block-n.ensures ∙ sym e.0; buffer = sym e.1 }
 
 pub code_block-requires : goal.code_block-requires
 code_block-requires c =
