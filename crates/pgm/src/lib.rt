@@ -2,101 +2,52 @@
 // the samples, each scaled to 10 bits. What is wrong with a file is told by name. Nothing is read past the last sample.
 #![tactic(auto)]
 
-ghost use Rattle.std.specs.Prelude.{◌≡◌, ◌≤◌, ◌<◌, length};
+ghost use Rattle.std.specs.Prelude.{◌≡◌, ◌*◌, ◌≤◌, ◌<◌, length, IfSome, IfOk};
 ghost use Rattle.pgm.specs.Gap.{is_blank, in_gap, goes_on, past_gap};
-ghost use Rattle.pgm.specs.Number.{is_digit, with_digit, digits_at, number_at, byte_at, pair_at, sample_at};
-ghost use Rattle.pgm.specs.Header.{raw_form, head_from, head_checked, head_sized, head_kind, head_of};
+ghost use Rattle.pgm.specs.Number.{is_digit, with_digit, found_of, digits_at, number_at, byte_at, pair_at, sample_at};
+ghost use Rattle.pgm.specs.Header.{told, raw_form, positive_at, samples_from, head_checked, head_sized, head_kind};
+ghost use Rattle.pgm.specs.Header.{head_of};
 ghost use Rattle.pgm.specs.Samples.{scaled_of, Outcome};
 
-// How the samples stand: as text, a byte each, or two bytes each with the higher one first.
-#[derive(Clone, Copy)]
-pub enum Form {
-    Plain,
-    Bytes,
-    Pairs,
-}
+mod head;
+mod wrong;
 
-// A number, if there is one, and where the next begins. Numbers above 999999 are read as 1000000.
-#[derive(Drop)]
+pub use head::{Form, Header};
+use picture::Size;
+pub use wrong::{BadSample, Unread};
+
+// A number, and where the next begins. Numbers above 999999 are read as 1000000.
+#[derive(Clone, Copy)]
 pub struct Number {
-    pub found: bool,
     pub value: u32,
     pub next: usize,
 }
 
-// Sides, the maxval, how the samples stand, and where they begin.
-#[derive(Drop)]
-pub struct Header {
-    pub width: usize,
-    pub height: usize,
-    pub most: u32,
-    pub form: Form,
-    pub at: usize,
-}
-
-// What the head of a file is found to be. `Other` has the digit behind the P.
-#[derive(Drop)]
-pub enum Head {
-    Is(Header),
-    NoPgm,
-    Other(u8),
-    NoWidth,
-    NoHeight,
-    NoMost,
-    TooLarge,
-    NoSamples,
-}
-
-// How reading the samples has ended: with all, or at a sample that is missing or above the maxval.
-#[derive(Drop)]
-pub enum Samples {
-    All,
-    Missing(usize),
-    Above(usize),
-}
-
+#[tactic(auto, unfolding(crate::specs::Gap::is_blank))]
 fn is_blank(b: u8) -> bool
     ensures { result ≡ is_blank b }
 {
-    if b == 32 {
-        return true;
-    }
-    if b < 9 {
-        return false;
-    }
-    if b < 14 {
-        return true;
-    }
-    false
+    matches!(b, b' ' | b'\t'..=b'\r')
 }
 
 // Whether a byte belongs to what may stand between two numbers.
+#[tactic(auto, unfolding(crate::specs::Gap::in_gap))]
 fn in_gap(comment: bool, b: u8) -> bool
     ensures { result ≡ in_gap comment b }
 {
-    if comment {
-        return true;
-    }
-    if b == b'#' {
-        return true;
-    }
-    is_blank(b)
+    comment || b == b'#' || is_blank(b)
 }
 
 // Whether the next byte belongs to a comment: it ends with its line.
+#[tactic(auto, unfolding(crate::specs::Gap::goes_on))]
 fn goes_on(comment: bool, b: u8) -> bool
     ensures { result ≡ goes_on comment b }
 {
-    if b == b'#' {
-        return true;
+    match b {
+        b'#' => true,
+        b'\n' | b'\r' => false,
+        _ => comment,
     }
-    if b == b'\n' {
-        return false;
-    }
-    if b == b'\r' {
-        return false;
-    }
-    comment
 }
 
 // The first place from `at` on where neither a blank nor a comment stands.
@@ -104,102 +55,93 @@ fn past_gap(bytes: &[u8], at: usize) -> usize
     ensures { result ≡ past_gap bytes.now at }
 {
     let mut comment = false;
-    let mut i = at;
-    while i < bytes.len() {
-        if in_gap(comment, bytes[i]) {
-            comment = goes_on(comment, bytes[i]);
-            i += 1;
-        } else {
+    for i in at..bytes.len() {
+        if !in_gap(comment, bytes[i]) {
             return i;
         }
+        comment = goes_on(comment, bytes[i]);
     }
-    i
+    bytes.len().max(at)
 }
 
+#[tactic(auto, unfolding(crate::specs::Number::is_digit))]
 fn is_digit(b: u8) -> bool
     ensures { result ≡ is_digit b }
 {
-    if b < b'0' {
-        return false;
-    }
-    if b < 58 {
-        return true;
-    }
-    false
+    matches!(b, b'0'..=b'9')
 }
 
 // One digit more behind digits worth v.
+#[tactic(auto, unfolding(crate::specs::Number::with_digit))]
 fn with_digit(v: u32, b: u8) -> u32
     requires { v ≤ 1000000 }
     ensures { (result ≡ with_digit v b) × (result ≤ 1000000) }
 {
-    let more = 10 * v + (b % 48) as u32;
-    if more < 1000000 { more } else { 1000000 }
+    (10 * v + u32::from(b % 48)).min(1000000)
+}
+
+// A number whose digits, if there are any, end before `next`.
+#[tactic(auto, unfolding(crate::specs::Number::found_of))]
+fn found(at: usize, value: u32, next: usize) -> Option<Number>
+    ensures { result ≡ found_of at value next }
+{
+    if next == at {
+        return None;
+    }
+    Some(Number { value, next })
 }
 
 // The number whose digits begin at `at`.
-fn digits(bytes: &[u8], at: usize) -> Number
+fn digits(bytes: &[u8], at: usize) -> Option<Number>
     ensures { result ≡ digits_at bytes.now at }
 {
-    let mut v: u32 = 0;
-    let mut i = at;
-    while i < bytes.len() {
-        if is_digit(bytes[i]) {
-            v = with_digit(v, bytes[i]);
-            i += 1;
-        } else {
-            return Number {
-                found: i != at,
-                value: v,
-                next: i,
-            };
+    let mut value = 0;
+    for i in at..bytes.len() {
+        if !is_digit(bytes[i]) {
+            return found(at, value, i);
         }
+        value = with_digit(value, bytes[i]);
     }
-    Number {
-        found: i != at,
-        value: v,
-        next: i,
-    }
+    found(at, value, bytes.len().max(at))
 }
 
 // The number behind blanks and comments.
-fn next_number(bytes: &[u8], at: usize) -> Number
+#[tactic(auto, unfolding(crate::specs::Number::number_at))]
+fn next_number(bytes: &[u8], at: usize) -> Option<Number>
     ensures { result ≡ number_at bytes.now at }
 {
     digits(bytes, past_gap(bytes, at))
 }
 
-fn next_byte(bytes: &[u8], at: usize) -> Number
-    ensures { (result ≡ byte_at bytes.now at) × (result.value ≤ 255) }
+#[tactic(auto, unfolding(crate::specs::Number::byte_at))]
+fn next_byte(bytes: &[u8], at: usize) -> Option<Number>
+    ensures value { result ≡ byte_at bytes.now at }
+    ensures small { IfSome result (λ b. b.value ≤ 255) }
 {
-    if at < bytes.len() {
-        return Number {
-            found: true,
-            value: bytes[at] as u32,
-            next: at + 1,
-        };
+    if bytes.len() <= at {
+        return None;
     }
-    Number {
-        found: false,
-        value: 0,
-        next: at,
-    }
+    Some(Number {
+        value: u32::from(bytes[at]),
+        next: at + 1,
+    })
 }
 
 // Two bytes, the higher one first.
-fn next_pair(bytes: &[u8], at: usize) -> Number
+#[tactic(auto, unfolding(crate::specs::Number::pair_at))]
+fn next_pair(bytes: &[u8], at: usize) -> Option<Number>
     ensures { result ≡ pair_at bytes.now at }
 {
-    let high = next_byte(bytes, at);
-    let low = next_byte(bytes, high.next);
-    Number {
-        found: low.found,
+    let high = next_byte(bytes, at)?;
+    let low = next_byte(bytes, high.next)?;
+    Some(Number {
         value: 256 * high.value + low.value,
         next: low.next,
-    }
+    })
 }
 
-fn next_sample(bytes: &[u8], at: usize, form: Form) -> Number
+#[tactic(auto, unfolding(crate::specs::Number::sample_at))]
+fn next_sample(bytes: &[u8], at: usize, form: Form) -> Option<Number>
     ensures { result ≡ sample_at bytes.now form at }
 {
     match form {
@@ -210,100 +152,94 @@ fn next_sample(bytes: &[u8], at: usize, form: Form) -> Number
 }
 
 // How P5 has samples up to a maxval.
+#[tactic(auto, unfolding(crate::specs::Header::raw_form))]
 fn raw_form(most: u32) -> Form
     ensures { result ≡ raw_form most }
 {
     if most < 256 { Form::Bytes } else { Form::Pairs }
 }
 
-// Where the samples begin: in P5 behind the one blank that ends the maxval.
-fn begun(bytes: &[u8], plain: bool, width: u32, height: u32, most: Number) -> Head
-    ensures { result ≡ head_from bytes.now plain width height most }
+// How the samples stand and where they begin: in P5 behind the one blank that ends the maxval.
+#[tactic(auto, unfolding(crate::specs::Header::samples_from))]
+fn begun(bytes: &[u8], plain: bool, most: Number) -> Result<(Form, usize), Unread>
+    ensures { result ≡ samples_from bytes.now plain most }
 {
     if plain {
-        return Head::Is(Header {
-            width: width as usize,
-            height: height as usize,
-            most: most.value,
-            form: Form::Plain,
-            at: most.next,
-        });
+        return Ok((Form::Plain, most.next));
     }
-    let blank = next_byte(bytes, most.next);
-    if is_blank(blank.value as u8) {
-        return Head::Is(Header {
-            width: width as usize,
-            height: height as usize,
-            most: most.value,
-            form: raw_form(most.value),
-            at: blank.next,
-        });
+    match next_byte(bytes, most.next) {
+        Some(blank) if is_blank(blank.value as u8) => Ok((raw_form(most.value), blank.next)),
+        _ => Err(Unread::NoSamples),
     }
-    Head::NoSamples
 }
 
-// The sides and the maxval, as they were found.
-fn checked(bytes: &[u8], plain: bool, width: Number, height: Number, most: Number) -> Head
-    ensures { result ≡ head_checked bytes.now plain width height most }
+// A number from 1 up; else the head has what is wrong.
+#[tactic(auto, unfolding(crate::specs::Header::positive_at))]
+fn positive(bytes: &[u8], at: usize, wrong: Unread) -> Result<Number, Unread>
+    ensures value { result ≡ positive_at bytes.now at wrong }
+    ensures some { IfOk result (λ n. 1 ≤ n.value) }
 {
-    if width.value == 0 {
-        return Head::NoWidth;
+    match next_number(bytes, at) {
+        Some(number) if number.value != 0 => Ok(number),
+        _ => Err(wrong),
     }
-    if height.value == 0 {
-        return Head::NoHeight;
+}
+
+// The maxval and the samples behind sides that were found.
+#[tactic(auto, unfolding(crate::specs::Header::head_checked))]
+fn checked(bytes: &[u8], plain: bool, width: Number, height: Number) -> Result<Header, Unread>
+    requires { (1 ≤ width.value) × (1 ≤ height.value) }
+    ensures { told result ≡ head_checked bytes.now plain width height }
+{
+    if 256 < width.value || 256 < height.value {
+        return Err(Unread::TooLarge);
     }
-    if 256 < width.value {
-        return Head::TooLarge;
-    }
-    if 256 < height.value {
-        return Head::TooLarge;
-    }
-    if most.value == 0 {
-        return Head::NoMost;
-    }
+    let most = positive(bytes, height.next, Unread::NoMost)?;
     if 65535 < most.value {
-        return Head::NoMost;
+        return Err(Unread::NoMost);
     }
-    begun(bytes, plain, width.value, height.value, most)
+    let (form, at) = begun(bytes, plain, most)?;
+    Ok(Header {
+        size: Size {
+            width: width.value as usize,
+            height: height.value as usize,
+        },
+        most: most.value,
+        form,
+        at,
+    })
 }
 
 // The sides and the maxval behind P2 or P5.
-fn sized(bytes: &[u8], plain: bool) -> Head
-    ensures { result ≡ head_sized bytes.now plain }
+#[tactic(auto, unfolding(crate::specs::Header::head_sized))]
+fn sized(bytes: &[u8], plain: bool) -> Result<Header, Unread>
+    ensures { told result ≡ head_sized bytes.now plain }
 {
-    let width = next_number(bytes, 2);
-    let height = next_number(bytes, width.next);
-    let most = next_number(bytes, height.next);
-    checked(bytes, plain, width, height, most)
+    let width = positive(bytes, 2, Unread::NoWidth)?;
+    let height = positive(bytes, width.next, Unread::NoHeight)?;
+    checked(bytes, plain, width, height)
 }
 
-fn by_kind(bytes: &[u8], kind: u8) -> Head
-    ensures { result ≡ head_kind bytes.now kind }
+#[tactic(auto, unfolding(crate::specs::Header::head_kind))]
+fn by_kind(bytes: &[u8], kind: u8) -> Result<Header, Unread>
+    ensures { told result ≡ head_kind bytes.now kind }
 {
-    if kind == b'2' {
-        return sized(bytes, true);
+    match kind {
+        b'2' => sized(bytes, true),
+        b'5' => sized(bytes, false),
+        _ => Err(Unread::Other(kind)),
     }
-    if kind == b'5' {
-        return sized(bytes, false);
-    }
-    Head::Other(kind)
 }
 
 // By the letter and the digit that a file begins with; a blank or a comment stands behind them.
-pub fn read_header(bytes: &[u8]) -> Head
-    ensures { result ≡ head_of bytes.now }
+#[tactic(auto, unfolding(crate::specs::Header::head_of))]
+pub fn read_header(bytes: &[u8]) -> Result<Header, Unread>
+    ensures { told result ≡ head_of bytes.now }
 {
-    if bytes.len() < 3 {
-        return Head::NoPgm;
+    if bytes.len() < 3 || bytes[0] != b'P' || !in_gap(false, bytes[2]) {
+        return Err(Unread::NoPgm);
     }
-    if bytes[0] != b'P' {
-        return Head::NoPgm;
-    }
-    let kind = bytes[1];
-    if in_gap(false, bytes[2]) {
-        return by_kind(bytes, kind);
-    }
-    Head::NoPgm
+    by_kind(bytes, bytes[1])
 }
 
 // A sample up to `most` as one of 10 bits, to the nearest.
@@ -314,32 +250,21 @@ fn scaled(v: u32, most: u32) -> u16
     ((v * 1023 + most / 2) / most) as u16
 }
 
-// Takes n samples, by rows, from `at` on.
-pub fn take_samples(
-    bytes: &[u8],
-    at: usize,
-    form: Form,
-    most: u32,
-    n: usize,
-    camera: &mut [u16],
-) -> Samples
-    requires { (1 ≤ most) × (most ≤ 65535) × (n ≤ length camera.old) }
-    ensures { Outcome bytes.now form at most n camera.new result }
+// Takes the picture's samples, by rows.
+pub fn take_samples(bytes: &[u8], header: Header, camera: &mut [u16]) -> Result<(), BadSample>
+    requires { header.size.height * header.size.width ≤ length camera.old }
+    ensures { Outcome bytes.now header.form header.at header.most (header.size.height * header.size.width) camera.new result }
 {
-    let mut from = at;
-    let mut i = 0;
-    while i < n {
-        let s = next_sample(bytes, from, form);
-        if s.found {
-            if most < s.value {
-                return Samples::Above(i);
-            }
-            camera[i] = scaled(s.value, most);
-            from = s.next;
-            i += 1;
-        } else {
-            return Samples::Missing(i);
+    let mut from = header.at;
+    for i in 0..header.size.area() {
+        let Some(sample) = next_sample(bytes, from, header.form) else {
+            return Err(BadSample::Missing(i));
+        };
+        if header.most < sample.value {
+            return Err(BadSample::Above(i));
         }
+        camera[i] = scaled(sample.value, header.most);
+        from = sample.next;
     }
-    Samples::All
+    Ok(())
 }

@@ -1,12 +1,7 @@
 -- `pgm::past_gap` meets its contract: what was passed and the gap that is left make the whole gap.
-use mathlib.Core.Path.{◌≡◌}
-use Prim.Native.Nat.{◌+◌, ◌-◌}
-use lib.ListN.{length, drop}
+use Rattle.std.proofs.Common.{◌≡◌, ◌+◌, drop}
 use Rattle.pgm.specs.Gap.{gap, past_gap}
 use Rattle.pgm.proofs.past_gap.Given as goal
 
 abbrev pub invariant-loop-i : goal.invariant-loop-i
 invariant-loop-i l = l.i + gap l.comment (drop l.i l.bytes) ≡ past_gap l.bytes l.at
-
-abbrev pub decreases-loop-i : goal.decreases-loop-i
-decreases-loop-i l = length l.bytes - l.i

@@ -1,73 +1,35 @@
 -- `pgm::take_samples` meets its contract: the first i samples are good and stored.
-use mathlib.Core.Path.{◌≡◌, refl, sym, ap, subst, ◌∙◌}
-use mathlib.Core.List.{List}
-use Prim.Native.Nat.{ℕ, ◌+◌, ◌≤◌}
-use native.Mathlib.Numerals.{add-one}
-use borrow.Author.Count.{below_none, below_more}
-use lib.ListN.{length-set}
+use Rattle.std.proofs.Common.{◌≡◌, ℕ, ◌+◌, List, Some, refl, sym, ap, ◌∙◌, add-one, arith, below_more}
+use borrow.Author.Count.{below_none}
 use Rattle.integers.proofs.Fill.{filled_more}
-use Rattle.pgm.specs.declared.Form.{Form}
+use Rattle.pgm.specs.declared.head.Form.{Form}
 use Rattle.pgm.specs.declared.Number.{Number}
 use Rattle.pgm.specs.Number.{sample_at}
-use Rattle.pgm.specs.Samples.{scaled_of, start_of, nth}
-use native.Mathlib.Omega.{arith}
+use Rattle.pgm.specs.Samples.{start_of, nth}
 use Rattle.pgm.proofs.take_samples.Goals as goal
 
 -- the sample that was read is the one that the definitions have there, and it ends where the next begins
 here : (bytes : List ℕ) (form : Form) (at from k : ℕ) (s : Number) → from ≡ start_of bytes form at k
-    → s ≡ sample_at bytes form from → s ≡ nth bytes form at k
-here bytes form at from k s e f = f ∙ ap (λ (n : ℕ). sample_at bytes form n) e
+    → Some s ≡ sample_at bytes form from → nth bytes form at k ≡ Some s
+here bytes form at from k s e f = sym (f ∙ ap (λ (n : ℕ). sample_at bytes form n) e)
 
-next_start : (bytes : List ℕ) (form : Form) (at k : ℕ) → (nth bytes form at k).next ≡ start_of bytes form at (k + 1)
+next_start : (bytes : List ℕ) (form : Form) (at k : ℕ) (s : Number) → nth bytes form at k ≡ Some s
+    → s.next ≡ start_of bytes form at (k + 1)
 unfolding start_of
-next_start bytes form at k = rw add-one refl
+next_start bytes form at k s e = rw (add-one, e) refl
 
 pub loop-i-init : goal.loop-i-init
 unfolding start_of
-loop-i-init c = (omega arith, refl, refl, below_none _, below_none _)
-
-pub returns-then-most-s : goal.returns-then-most-s
-returns-then-most-s c =
-    let taken = c in
-    let read = taken in
-    let l = read.loop-i in
-    let a = read.args in
-    let e = here a.bytes.now a.form a.at l.from l.i read.next_sample-s.result l.invariant.2
-    read.next_sample-s.ensures in (
-      read.loop-i-test.true,
-      l.invariant.3,
-      rw (sym e) c.if-most-s.true,
-    )
+loop-i-init c = record { start = refl; good = below_none _; stored = below_none _ }
 
 pub loop-i-preserved : goal.loop-i-preserved
 loop-i-preserved c =
-    let kept = c in
-    let taken = kept in
-    let read = taken in
-    let l = read.loop-i in
-    let a = read.args in
-    let e = here a.bytes.now a.form a.at l.from l.i read.next_sample-s.result l.invariant.2
-    read.next_sample-s.ensures in (
-      omega arith,
-      simp length-set l.invariant.1,
-      ap (λ (n : Number). n.next) e ∙ next_start a.bytes.now a.form a.at l.i,
-      below_more _ _ l.invariant.3 (
-        ap (λ (n : Number). n.found) (sym e) ∙ taken.if-s.true,
-        subst (λ (n : Number). n.value ≤ a.most) e kept.if-most-s.false,
-      ),
-      filled_more 0 l.camera _ l.i _ (omega arith) (c.scaled.ensures.0
-          ∙ ap (λ (n : Number). scaled_of n.value a.most) e) l.invariant.4,
-    )
-
-pub returns-else-s : goal.returns-else-s
-returns-else-s c =
-    let read = c in
-    let l = read.loop-i in
-    let a = read.args in
-    let e = here a.bytes.now a.form a.at l.from l.i read.next_sample-s.result l.invariant.2
-    read.next_sample-s.ensures in
-    (read.loop-i-test.true, l.invariant.3, ap (λ (n : Number). n.found) (sym e) ∙ c.if-s.false)
-
-pub returns : goal.returns
-returns c =
-    let l = c.loop-i in (λ k h. l.invariant.3 k (omega arith), λ k h. l.invariant.4 k (omega arith))
+    let l = c.loop-i in
+    let h = c.args.header in
+    let bytes = c.args.bytes.now in
+    let e = here bytes h.form h.at l.from l.i c.in-Some.sample l.invariant.start c.in-Some.ensures in
+    record {
+      start = next_start bytes h.form h.at l.i c.in-Some.sample e;
+      good = below_more _ _ l.invariant.good (rw e (refl, c.if-header-sample.false));
+      stored = filled_more 0 l.camera _ l.i _ (omega arith) (rw e c.scaled.ensures.0) l.invariant.stored;
+    }
