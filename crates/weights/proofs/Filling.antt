@@ -14,7 +14,8 @@ use lib.Seq.{get_or-set_same, get_or-set_other}
 use borrow.Author.Tests.{lt-ltb, le-ltb}
 use Rattle.integers.proofs.Order.{below_or_not}
 use Rattle.scan.specs.Scan.{scan_at}
-use Rattle.weights.specs.Inner.Places.{Scanned, Standing, Cleared}
+use Rattle.scan.specs.Scanned.{Scanned}
+use Rattle.weights.specs.Inner.Places.{Standing, Cleared}
 use Rattle.weights.proofs.Places.{inside, apart}
 
 abbrev pub Filled : (width height n : ℕ) → List ℕ → List ℕ → Type 0

@@ -23,7 +23,8 @@ use Rattle.price.proofs.Counting.{ones, nonzeros_over, nonzeros_next, some_left,
 use Rattle.scaling.specs.declared.scale.Scale.{Scale}
 use Rattle.weights.specs.declared.prices.Prices.{Prices}
 use Rattle.weights.specs.Inner.Prices.{rule_by}
-use Rattle.weights.specs.Inner.Places.{kept_at, in_scan, kept_from, kept_places, Scanned, Weighable, Standing}
+use Rattle.scan.specs.Scanned.{Scanned}
+use Rattle.weights.specs.Inner.Places.{kept_at, in_scan, kept_from, kept_places, Weighable, Standing}
 use Rattle.scaling.proofs.Scaling.{nearest_of_0}
 
 -- ---- levels that stand for ls

@@ -6,7 +6,8 @@ use Rattle.price.specs.Price.{uncoded, nonzeros, price}
 use Rattle.scaling.specs.declared.scale.Scale.{Scale}
 use Rattle.weights.specs.declared.prices.Prices.{Prices}
 use Rattle.weights.specs.Inner.Prices.{rule_by}
-use Rattle.weights.specs.Inner.Places.{kept_places, Scanned, Weighable, Standing, Cleared}
+use Rattle.scan.specs.Scanned.{Scanned}
+use Rattle.weights.specs.Inner.Places.{kept_places, Weighable, Standing, Cleared}
 
 -- the block's D is d, n of its magnitudes are kept, and its levels are all 0 yet
 pub record Choosable (p : Prices) (g : Scale) (d w h : ℕ) (kept scanned levels : List ℕ) (n : ℕ) : Type 0 where

@@ -1,7 +1,7 @@
 -- The places of a block w wide and h high whose magnitudes are kept by rows, and levels that stand by rows for
 -- magnitudes in scan order.
 use Rattle.std.specs.Prelude.{◌≡◌, List, map, ℕ, ◌*◌, ◌≤◌, ◌<◌, length, get_or, drop}
-use Rattle.scan.specs.Scan.{most_places, scan, scan_at}
+use Rattle.scan.specs.Scan.{scan, scan_at}
 use Rattle.price.specs.Level.{nearest}
 use Rattle.price.specs.Price.{nonzeros}
 use Rattle.scaling.specs.declared.scale.Scale.{Scale}
@@ -21,14 +21,6 @@ kept_from w h kept n = nonzeros (drop n (in_scan w h kept))
 -- the places, of magnitudes that are kept by rows
 abbrev pub kept_places : Scale → (w h : ℕ) → List ℕ → List ℕ
 kept_places g w h kept = map (λ p. get_or kept p 0 * g.q) (scan w h)
-
--- the scan that a walk goes by
-pub record Scanned (w h : ℕ) (held : List ℕ) : Type 0 where
-  pub is : held ≡ scan w h
-  pub wide : 1 ≤ w
-  pub high : 1 ≤ h
-  pub full : length (scan w h) ≡ w * h
-  pub few : w * h ≤ most_places
 
 -- magnitudes that can be weighed: what refusals 7 and 8 leave, and nothing is kept whose m is 0
 pub record Weighable (p : Prices) (g : Scale) (w h : ℕ) (kept : List ℕ) : Type 0 where
