@@ -4,3 +4,4 @@ pub mod Prices
 pub mod Offers
 pub mod Places
 pub mod Choosing
+pub mod Chosen

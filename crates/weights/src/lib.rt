@@ -2,6 +2,7 @@
 // place. Together they make the rule of the `price` crate; the walk and the search go by it.
 #![tactic(auto)]
 
+pub mod kept;
 pub mod offers;
 pub mod prices;
 
