@@ -1,5 +1,4 @@
 -- Of the first n fates none comes more than n times, so that a count fits.
--- Assumes nothing.
 use mathlib.Core.Path.{◌≡◌, sym, ap, subst, ◌∙◌}
 use Prim.Native.Nat.{ℕ, zero, suc, ◌+◌, ◌≤◌, zero-le}
 use native.Mathlib.Numerals.{add-one}
@@ -12,40 +11,15 @@ use Rattle.fates.specs.Fate.{counted, tally_of, Most}
 module _ (n : ℕ) (t : Tally) (m : Most n t) where
   pub counted_most : (fate : Fate) → Most (suc n) (counted t fate)
   counted_most Nothing =
-      record {
-        kept = omega (arith, m.kept);
-        lowered = omega (arith, m.lowered);
-        dropped = omega (arith, m.dropped);
-        other = omega (arith, m.other);
-      }
+      record { kept = omega arith; lowered = omega arith; dropped = omega arith; other = omega arith }
   counted_most Kept =
-      record {
-        kept = omega (arith, m.kept);
-        lowered = omega (arith, m.lowered);
-        dropped = omega (arith, m.dropped);
-        other = omega (arith, m.other);
-      }
+      record { kept = omega arith; lowered = omega arith; dropped = omega arith; other = omega arith }
   counted_most Lowered =
-      record {
-        kept = omega (arith, m.kept);
-        lowered = omega (arith, m.lowered);
-        dropped = omega (arith, m.dropped);
-        other = omega (arith, m.other);
-      }
+      record { kept = omega arith; lowered = omega arith; dropped = omega arith; other = omega arith }
   counted_most Dropped =
-      record {
-        kept = omega (arith, m.kept);
-        lowered = omega (arith, m.lowered);
-        dropped = omega (arith, m.dropped);
-        other = omega (arith, m.other);
-      }
+      record { kept = omega arith; lowered = omega arith; dropped = omega arith; other = omega arith }
   counted_most Other =
-      record {
-        kept = omega (arith, m.kept);
-        lowered = omega (arith, m.lowered);
-        dropped = omega (arith, m.dropped);
-        other = omega (arith, m.other);
-      }
+      record { kept = omega arith; lowered = omega arith; dropped = omega arith; other = omega arith }
 
 pub tally_most : (fates : ℕ → Fate) (n : ℕ) → Most n (tally_of fates n)
 unfolding tally_of
@@ -56,12 +30,7 @@ module _ (fates : ℕ → Fate) where
   pub tally_below : (n m : ℕ) → n ≤ m → {t : Tally} → t ≡ tally_of fates n → Most m t
   tally_below n m h {t} e =
       let b = subst (λ (t : Tally). Most n t) (sym e) (tally_most fates n) in
-      record {
-        kept = omega (arith, b.kept);
-        lowered = omega (arith, b.lowered);
-        dropped = omega (arith, b.dropped);
-        other = omega (arith, b.other);
-      }
+      record { kept = omega arith; lowered = omega arith; dropped = omega arith; other = omega arith }
 
   pub tally_more : (n : ℕ) {t more : Tally} {fate : Fate} → t ≡ tally_of fates n → fate ≡ fates n → more ≡ counted t fate
       → more ≡ tally_of fates (n + 1)

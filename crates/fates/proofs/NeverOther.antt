@@ -1,6 +1,5 @@
 -- No fate is `Other` in a block that the quantiser accepts, nor in one that the guarded call does: a level is its
--- rounded magnitude, one less, or 0. It is what demand 3 says of the calls, in the words of the fates.
--- Assumes nothing.
+-- rounded magnitude, one less, or 0. It is what the calls promise of their levels, in the words of the fates.
 use mathlib.Core.Path.{◌≡◌, refl, ap}
 use mathlib.Core.Logic.{◌⊎◌, inl, inr, ⊎_elim}
 use mathlib.Core.Bool.{Bool, true, false, cond}

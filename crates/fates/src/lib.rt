@@ -3,10 +3,11 @@
 #![tactic(auto)]
 
 ghost use Rattle.std.specs.Prelude.{◌≡◌, ◌+◌, ◌≤◌};
-ghost use Rattle.fates.specs.Fate.{fate_of, fate_at, none_yet, counted, Most};
+ghost use Rattle.fates.specs.Fate.{fate_of, fate_at, counted, Most};
 
-use coefficients::skip::absolute;
-use scaling::scale::{rounded, scale_of};
+use scaling::scale::Scale;
+use std::fmt::{Display, Formatter, Result, Write};
+use std::ops::Add;
 
 // Nothing: a level of 0 where the magnitude is 0 already. Other: what the quantiser never does.
 #[derive(Clone, Copy)]
@@ -19,18 +20,17 @@ pub enum Fate {
 }
 
 // By the rounded magnitude and the level's.
+#[tactic(auto, unfolding(crate::specs::Fate::fate_of))]
 fn judged(m: u64, level: u64) -> Fate
     requires { level ≤ 32768 }
     ensures { result ≡ fate_of m level }
 {
-    if level == 0 {
-        if m == 0 { Fate::Nothing } else { Fate::Dropped }
-    } else if level == m {
-        Fate::Kept
-    } else if level + 1 == m {
-        Fate::Lowered
-    } else {
-        Fate::Other
+    match level {
+        0 if m == 0 => Fate::Nothing,
+        0 => Fate::Dropped,
+        _ if level == m => Fate::Kept,
+        _ if level + 1 == m => Fate::Lowered,
+        _ => Fate::Other,
     }
 }
 
@@ -39,29 +39,17 @@ pub fn became(c: i16, level: i16, qp: u32) -> Fate
     requires { qp ≤ 63 }
     ensures { result ≡ fate_at qp c level }
 {
-    let m = rounded(scale_of(3, qp), absolute(c));
-    judged(m, absolute(level) as u64)
+    let m = Scale::of(3, qp).rounded(u32::from(c.unsigned_abs()));
+    judged(m, u64::from(level.unsigned_abs()))
 }
 
 // How many of each, but for Nothing.
-#[derive(Clone, Copy)]
+#[derive(Clone, Copy, Default)]
 pub struct Tally {
     pub kept: u64,
     pub lowered: u64,
     pub dropped: u64,
     pub other: u64,
-}
-
-// Nothing was counted yet.
-pub fn none() -> Tally
-    ensures { result ≡ none_yet }
-{
-    Tally {
-        kept: 0,
-        lowered: 0,
-        dropped: 0,
-        other: 0,
-    }
 }
 
 impl Tally {
@@ -80,18 +68,38 @@ impl Tally {
         }
         t
     }
+}
 
-    // The fates of some blocks and of others.
-    pub fn with(self, more: Tally) -> Tally
-        requires { Most 65536 self × Most 65536 more }
-        ensures { (result.kept ≡ self.kept + more.kept) × (result.lowered ≡ self.lowered + more.lowered)
-            × (result.dropped ≡ self.dropped + more.dropped) × (result.other ≡ self.other + more.other) }
-    {
+// The fates of some blocks and of others.
+impl Add for Tally {
+    type Output = Tally;
+
+    ghost can_add = { λ t more. Most 65536 t × Most 65536 more };
+
+    ghost add_gives = { λ t more sum. (sum.kept ≡ t.kept + more.kept) × (sum.lowered ≡ t.lowered + more.lowered)
+        × (sum.dropped ≡ t.dropped + more.dropped) × (sum.other ≡ t.other + more.other) };
+
+    fn add(self, more: Tally) -> Tally {
         Tally {
             kept: self.kept + more.kept,
             lowered: self.lowered + more.lowered,
             dropped: self.dropped + more.dropped,
             other: self.other + more.other,
         }
+    }
+}
+
+impl Display for Tally {
+    fn fmt<W: Write>(&self, f: &mut Formatter<W>) -> Result {
+        let Tally {
+            kept,
+            lowered,
+            dropped,
+            other,
+        } = *self;
+        write!(
+            f,
+            "kept {kept}, lowered {lowered}, dropped {dropped}, other {other}"
+        )
     }
 }

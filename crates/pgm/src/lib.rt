@@ -253,7 +253,8 @@ fn scaled(v: u32, most: u32) -> u16
 // Takes the picture's samples, by rows.
 pub fn take_samples(bytes: &[u8], header: Header, camera: &mut [u16]) -> Result<(), BadSample>
     requires { header.size.height * header.size.width ≤ length camera.old }
-    ensures { Outcome bytes.now header.form header.at header.most (header.size.height * header.size.width) camera.new result }
+    ensures { let n = header.size.height * header.size.width in
+        Outcome bytes.now header.form header.at header.most n camera.new result }
 {
     let mut from = header.at;
     for i in 0..header.size.area() {

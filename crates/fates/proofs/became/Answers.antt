@@ -1,5 +1,5 @@
 -- `fates::became` meets its contract: what it is judged by is m.
-use mathlib.Core.Path.{refl, ◌∙◌}
+use Rattle.std.proofs.Common.{refl, ◌∙◌}
 use mir.Facts.{to_z-of_z}
 use Rattle.price.specs.Level.{scaled}
 use Rattle.fates.proofs.became.Goals as goal
@@ -7,18 +7,15 @@ use Rattle.fates.proofs.became.Goals as goal
 pub returns : goal.returns
 unfolding scaled
 returns c =
-    let r = c in
-    let m = r in
-    let s = m in
-    let g = s.scale_of.ensures in
-    let f = s.ranges in
     c.judged.ensures
     ∙ rw (
-      c.absolute-2.ensures.0,
-      r.rounded-m.ensures.0,
-      g.shift,
-      g.q,
-      m.absolute.ensures.0,
-      to_z-of_z f.c,
-      to_z-of_z f.level,
+      c.from-2.ensures,
+      c.unsigned_abs-2.ensures.value,
+      c.rounded-m.ensures.0,
+      c.of.ensures.shift,
+      c.of.ensures.q,
+      c.from.ensures,
+      c.unsigned_abs.ensures.value,
+      to_z-of_z c.ranges.c,
+      to_z-of_z c.ranges.level,
     ) refl
