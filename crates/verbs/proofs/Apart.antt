@@ -1,5 +1,4 @@
 -- Words compared byte by byte, and that a verb is read from its word and from no other.
--- Assumes nothing.
 use mathlib.Core.Path.{◌≡◌, refl, sym, ap, ◌∙◌}
 use mathlib.Core.Bool.{Bool, true, false, cond, ◌&&◌, true≢false}
 use mathlib.Core.List.{List, [], ◌∷◌}
@@ -7,10 +6,12 @@ use Prim.Native.Nat.{ℕ}
 use native.Mathlib.Omega.{arith}
 use borrow.Author.Tests.{eq-eqb, eqb-true}
 use lib.Dec.{eqb}
+use Rattle.std.specs.Cmp.Lexicographic.{pointwise}
+use Rattle.std.specs.List.{find}
 use Rattle.verbs.specs.declared.Verb.{Verb}
 use Rattle.verbs.specs.declared.Verb.TheVariants.{Transform, Quantise, SubBlock, ScaleBack, Inverse}
 use Rattle.verbs.specs.declared.Verb.TheVariants.{Guarded, Measure, Write, Read}
-use Rattle.verbs.specs.declared.Named.TheVariants.{Is, Malformed}
+use Rattle.std.proofs.Common.{Some, None}
 use Rattle.verbs.specs.Verbs.{word_of, same_bytes, verb_of}
 
 -- ---- the same bytes
@@ -30,17 +31,24 @@ same_bytes_lem (b ∷ w) (c ∷ v) e = go (eqb b c) refl (same_bytes_lem w v) e
     go true q rest p = let first = eqb-true b c q in let others = rest p in cc
     go false q rest p = absurd (true≢false (sym p))
 
--- a comparison that says yes to the same bytes and to no others
-pub compared : (w v : List ℕ) (r : Bool) → (r ≡ true → w ≡ v) → (w ≡ v → r ≡ true) → same_bytes w v ≡ r
-compared w v true sound whole = rw (sound refl) (same_itself v)
-compared w v false sound whole = go (same_bytes w v) refl
-  where
-    go : (t : Bool) → same_bytes w v ≡ t → t ≡ false
-    go true q = sym (whole (same_bytes_lem w v q))
-    go false q = refl
+-- `==` of std compares so too
+pub same_pointwise : (w v : List ℕ) → pointwise eqb w v ≡ same_bytes w v
+unfolding same_bytes
+same_pointwise [] [] = refl
+same_pointwise [] (c ∷ v) = refl
+same_pointwise (b ∷ w) [] = refl
+same_pointwise (b ∷ w) (c ∷ v) = ap (λ (r : Bool). eqb b c && r) (same_pointwise w v)
 
 -- ---- verbs
-pub read_back_lem : (v : Verb) → verb_of (word_of v) ≡ Is v
+abbrev pub verbs : List Verb
+verbs = Transform ∷ Quantise ∷ SubBlock ∷ ScaleBack ∷ Inverse ∷ Guarded ∷ Measure ∷ Write ∷ Read ∷ []
+
+-- the first verb whose word has the same bytes
+pub first_found : (w : List ℕ) → find (λ v. pointwise eqb w (word_of v)) verbs ≡ verb_of w
+unfolding verb_of
+first_found w = simp (same_pointwise w)
+
+pub read_back_lem : (v : Verb) → verb_of (word_of v) ≡ Some v
 unfolding verb_of
 read_back_lem Transform = refl
 read_back_lem Quantise = refl
@@ -52,7 +60,7 @@ read_back_lem Measure = refl
 read_back_lem Write = refl
 read_back_lem Read = refl
 
-pub from_its_word : (w : List ℕ) (v : Verb) → verb_of w ≡ Is v → w ≡ word_of v
+pub from_its_word : (w : List ℕ) (v : Verb) → verb_of w ≡ Some v → w ≡ word_of v
 unfolding verb_of
 from_its_word w v e =
     go (same_bytes w (word_of Transform)) (same_bytes w (word_of Quantise)) (same_bytes w (word_of SubBlock))
@@ -64,12 +72,12 @@ from_its_word w v e =
         → same_bytes w (word_of SubBlock) ≡ c → same_bytes w (word_of ScaleBack) ≡ d → same_bytes w (word_of Inverse) ≡ f
         → same_bytes w (word_of Guarded) ≡ g → same_bytes w (word_of Measure) ≡ h → same_bytes w (word_of Write) ≡ i
         → same_bytes w (word_of Read) ≡ j
-        → cond a (Is Transform)
-        (cond b (Is Quantise)
-        (cond c (Is SubBlock)
-        (cond d (Is ScaleBack)
-        (cond f (Is Inverse)
-        (cond g (Is Guarded) (cond h (Is Measure) (cond i (Is Write) (cond j (Is Read) Malformed)))))))) ≡ Is v
+        → cond a (Some Transform)
+        (cond b (Some Quantise)
+        (cond c (Some SubBlock)
+        (cond d (Some ScaleBack)
+        (cond f (Some Inverse)
+        (cond g (Some Guarded) (cond h (Some Measure) (cond i (Some Write) (cond j (Some Read) None)))))))) ≡ Some v
         → w ≡ word_of v
     go true b c d f g h i j p q r s t x y z u e =
         let is : Transform ≡ v = cc in same_bytes_lem w (word_of Transform) p ∙ ap word_of is

@@ -1,10 +1,8 @@
 -- The word of each verb, as bytes, and which verb a word names.
-use Rattle.std.specs.Prelude.{Bool, true, false, ◌&&◌, cond, List, [], ◌∷◌, ℕ, eqb}
+use Rattle.std.specs.Prelude.{Bool, true, false, ◌&&◌, cond, List, [], ◌∷◌, ℕ, eqb, Option, Some, None}
 use Rattle.verbs.specs.declared.Verb.{Verb}
 use Rattle.verbs.specs.declared.Verb.TheVariants.{Transform, Quantise, SubBlock, ScaleBack, Inverse}
 use Rattle.verbs.specs.declared.Verb.TheVariants.{Guarded, Measure, Write, Read}
-use Rattle.verbs.specs.declared.Named.{Named}
-use Rattle.verbs.specs.declared.Named.TheVariants.{Is, Malformed}
 
 -- `transform`, `quantise`, `subblock`, `scaleback`, `inverse`, `guarded`, `measure`, `write`, `read`
 abbrev pub word_of : Verb → List ℕ
@@ -25,15 +23,15 @@ same_bytes [] (c ∷ v) = false
 same_bytes (b ∷ w) [] = false
 same_bytes (b ∷ w) (c ∷ v) = eqb b c && same_bytes w v
 
-unfoldable pub verb_of : List ℕ → Named
+unfoldable pub verb_of : List ℕ → Option Verb
 unfolding same_bytes
 verb_of w =
-    cond (same_bytes w (word_of Transform)) (Is Transform)
-    (cond (same_bytes w (word_of Quantise)) (Is Quantise)
-    (cond (same_bytes w (word_of SubBlock)) (Is SubBlock)
-    (cond (same_bytes w (word_of ScaleBack)) (Is ScaleBack)
-    (cond (same_bytes w (word_of Inverse)) (Is Inverse)
-    (cond (same_bytes w (word_of Guarded)) (Is Guarded)
-    (cond (same_bytes w (word_of Measure)) (Is Measure)
-    (cond (same_bytes w (word_of Write)) (Is Write)
-    (cond (same_bytes w (word_of Read)) (Is Read) Malformed))))))))
+    cond (same_bytes w (word_of Transform)) (Some Transform)
+    (cond (same_bytes w (word_of Quantise)) (Some Quantise)
+    (cond (same_bytes w (word_of SubBlock)) (Some SubBlock)
+    (cond (same_bytes w (word_of ScaleBack)) (Some ScaleBack)
+    (cond (same_bytes w (word_of Inverse)) (Some Inverse)
+    (cond (same_bytes w (word_of Guarded)) (Some Guarded)
+    (cond (same_bytes w (word_of Measure)) (Some Measure)
+    (cond (same_bytes w (word_of Write)) (Some Write)
+    (cond (same_bytes w (word_of Read)) (Some Read) None))))))))

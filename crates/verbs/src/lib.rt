@@ -2,9 +2,7 @@
 #![tactic(auto)]
 
 ghost use Rattle.std.specs.Prelude.{◌≡◌};
-ghost use Rattle.verbs.specs.Verbs.{verb_of};
-
-use check::same;
+ghost use Rattle.verbs.specs.Verbs.{word_of, verb_of};
 
 #[derive(Clone, Copy)]
 pub enum Verb {
@@ -19,41 +17,39 @@ pub enum Verb {
     Read,
 }
 
-#[derive(Drop)]
-pub enum Named {
-    Is(Verb),
-    Malformed,
+// In the order in which their words are tried.
+const VERBS: [Verb; 9] = [
+    Verb::Transform,
+    Verb::Quantise,
+    Verb::SubBlock,
+    Verb::ScaleBack,
+    Verb::Inverse,
+    Verb::Guarded,
+    Verb::Measure,
+    Verb::Write,
+    Verb::Read,
+];
+
+impl Verb {
+    fn word(self) -> &'static [u8]
+        ensures { result.now ≡ word_of self }
+    {
+        match self {
+            Verb::Transform => b"transform",
+            Verb::Quantise => b"quantise",
+            Verb::SubBlock => b"subblock",
+            Verb::ScaleBack => b"scaleback",
+            Verb::Inverse => b"inverse",
+            Verb::Guarded => b"guarded",
+            Verb::Measure => b"measure",
+            Verb::Write => b"write",
+            Verb::Read => b"read",
+        }
+    }
 }
 
-pub fn read_verb(word: &[u8]) -> Named
+pub fn read_verb(word: &[u8]) -> Option<Verb>
     ensures { result ≡ verb_of word.now }
 {
-    if same(word, b"transform") {
-        return Named::Is(Verb::Transform);
-    }
-    if same(word, b"quantise") {
-        return Named::Is(Verb::Quantise);
-    }
-    if same(word, b"subblock") {
-        return Named::Is(Verb::SubBlock);
-    }
-    if same(word, b"scaleback") {
-        return Named::Is(Verb::ScaleBack);
-    }
-    if same(word, b"inverse") {
-        return Named::Is(Verb::Inverse);
-    }
-    if same(word, b"guarded") {
-        return Named::Is(Verb::Guarded);
-    }
-    if same(word, b"measure") {
-        return Named::Is(Verb::Measure);
-    }
-    if same(word, b"write") {
-        return Named::Is(Verb::Write);
-    }
-    if same(word, b"read") {
-        return Named::Is(Verb::Read);
-    }
-    Named::Malformed
+    VERBS.iter().copied().find(|verb| word == verb.word())
 }
