@@ -1,7 +1,7 @@
 -- The candidates one after the other: while none of those before p fits, whether one fits, and which is the first, is a
 -- matter of those from p on. Assumes nothing.
 use mathlib.Core.Path.{◌≡◌, refl, sym, ap, ◌∙◌}
-use mathlib.Core.Bool.{Bool, true, false, cond, true≢false, ◌||◌}
+use mathlib.Core.Bool.{Bool, true, false, cond, ◌||◌}
 use mathlib.Core.List.{List, [], map}
 use Prim.Native.Nat.{ℕ, zero, suc, ◌+◌, ◌*◌, ◌/◌, ◌^◌, ◌≤◌, ◌<◌}
 use native.Mathlib.Omega.{arith}
@@ -9,40 +9,26 @@ use native.Mathlib.Nat.{pow-suc}
 use lib.Pow.{pow_mono, pow-lt}
 use lib.ListN.{length, length-map}
 use lib.IntN.{ℤ}
+use Rattle.std.specs.Prelude.{Option, Some, None, Ok, Err}
 use Rattle.integers.specs.Tests.{some, listed}
 use Rattle.refusals.specs.declared.Component.{Component}
 use Rattle.refusals.specs.declared.Refusal.TheVariants.{Height}
 use Rattle.refusals.specs.Numbers.{number_of, component_of}
-use Rattle.refusals.specs.Faults.{Outcome, accepted, refused}
+use Rattle.refusals.specs.Faults.{accepted, refused}
 use Rattle.guarding.specs.declared.Guarded.{Guarded}
-use Rattle.guarding.specs.declared.GuardAnswer.TheVariants as answers
 use Rattle.guarding.specs.Block.{put_back, first_where}
 use Rattle.trial.specs.declared.Terms.{Terms}
-use Rattle.trial.specs.declared.Tried.{Tried}
-use Rattle.trial.specs.declared.Tried.TheVariants.{Fits, No}
 use Rattle.trial.specs.Inner.Trial.{top_by, levels_by, fits_by, report_by, TriedAs}
 use Rattle.attempts.specs.Inner.Candidates.{repaired_by, later_by, first_by, answer_by, RepairedAs}
 use Rattle.attempts.proofs.PutBack.{put_back_again}
 
 -- what is said of one candidate
-abbrev is_fit : Tried → Bool
-is_fit (Fits a) = true
-is_fit No = false
+fit_if : (b : Bool) (x a : Guarded) → cond b (Some x) None ≡ Some a → (b ≡ true) × (x ≡ a)
+fit_if true x a e = (refl, cc)
+fit_if false x a e = absurd cc
 
-abbrev said : Guarded → Tried → Guarded
-said d (Fits a) = a
-said d No = d
-
-abbrev is_accepted : Outcome Guarded → Bool
-is_accepted (accepted a) = true
-is_accepted (refused n k) = false
-
-fit_if : (b : Bool) (x a : Guarded) → cond b (Fits x) No ≡ Fits a → (b ≡ true) × (x ≡ a)
-fit_if true x a e = (refl, ap (said x) e)
-fit_if false x a e = absurd (true≢false (ap is_fit (sym e)))
-
-no_if : (b : Bool) (x : Guarded) → cond b (Fits x) No ≡ No → b ≡ false
-no_if true x e = absurd (true≢false (ap is_fit e))
+no_if : (b : Bool) (x : Guarded) → cond b (Some x) None ≡ None → b ≡ false
+no_if true x e = absurd cc
 no_if false x e = refl
 
 module _ (t : Terms) (r B : List ℤ) (cs ms : List ℕ) where
@@ -138,9 +124,9 @@ module _ (t : Terms) (r B : List ℤ) (cs ms : List ℕ) where
                     (listed (repaired_by t cs ms) (suc s.i) j))) k;
               }
 
-      module _ (o : Tried) (after : List ℤ) (tried : TriedAs t r B cs (put_back p ms rounded) after o) where
-        pub coded_here : (component : Component) (a : Guarded) → o ≡ Fits a
-            → RepairedAs t component r B cs ms after (answers.Coded a)
+      module _ (o : Option Guarded) (after : List ℤ) (tried : TriedAs t r B cs (put_back p ms rounded) after o) where
+        pub coded_here : (component : Component) (a : Guarded) → o ≡ Some a
+            → RepairedAs t component r B cs ms after (Ok a)
         unfolding answer_by
         coded_here component a e =
             let w = fit_if (fit (put_back p ms rounded)) _ a (sym tried.answer ∙ e) in
@@ -153,7 +139,7 @@ module _ (t : Terms) (r B : List ℤ) (cs ms : List ℕ) where
               left = λ x y. tried.left w.0 ∙ ap (levels_by t.log2 B) (sym f.1);
             }
 
-        pub next_here : o ≡ No → Trying (p * 2) (put_back p ms rounded)
+        pub next_here : o ≡ None → Trying (p * 2) (put_back p ms rounded)
         next_here e = no_fit_here (no_if (fit (put_back p ms rounded)) _ (sym tried.answer ∙ e))
 
     module _ (past : 2 ^ (t.log2 + t.log2) < p) where
@@ -170,11 +156,11 @@ module _ (t : Terms) (r B : List ℤ) (cs ms : List ℕ) where
               no)
 
       pub refused_here : (component : Component) (after : List ℤ)
-          → RepairedAs t component r B cs ms after (answers.Refused Height component)
+          → RepairedAs t component r B cs ms after (Err (record { why = Height; component = component }))
       unfolding answer_by
       refused_here component after =
           record {
             answer = ap (λ (b : Bool). cond b (accepted (report_by t r B cs (first_by t r B cs ms)))
                 (refused (number_of Height) (component_of component))) (sym none);
-            left = λ a e. absurd (true≢false (ap is_accepted (sym e)));
+            left = λ a e. absurd cc;
           }

@@ -5,9 +5,9 @@
 ghost use Rattle.std.specs.Prelude.{length};
 ghost use Rattle.attempts.specs.Inner.Candidates.{Repairable, RepairedAs};
 
-use guarding::GuardAnswer;
-use refusals::{Component, Refusal};
-use trial::{Terms, Tried, put_back, try_one};
+use guarding::Guarded;
+use refusals::{Component, Refusal, Refused};
+use trial::{Terms, put_back, try_one};
 
 // The first 1, 2, 4, .. places put back, up to all. What is put back stays so.
 pub fn try_all(
@@ -21,7 +21,7 @@ pub fn try_all(
     places: &[u16],
     t: Terms,
     component: Component,
-) -> GuardAnswer
+) -> Result<Guarded, Refused>
     requires { Repairable t residuals.now coefs.now scan.now places.now ms.old (length levels.old)
         (length shown.old) (length rows.old) }
     ensures { RepairedAs t component residuals.now coefs.now places.now
@@ -31,14 +31,14 @@ pub fn try_all(
     let mut p: usize = 1;
     while p <= n {
         put_back(&mut ms[..p], &places[..p], t.scale);
-        let o = try_one(levels, residuals, shown, coefs, scan, rows, ms, places, t);
-        match o {
-            Tried::Fits(a) => {
-                return GuardAnswer::Coded(a);
-            }
-            Tried::No => {}
+        let fitting = try_one(levels, residuals, shown, coefs, scan, rows, ms, places, t);
+        if let Some(coded) = fitting {
+            return Ok(coded);
         }
         p = p * 2;
     }
-    GuardAnswer::Refused(Refusal::Height, component)
+    Err(Refused {
+        why: Refusal::Height,
+        component,
+    })
 }

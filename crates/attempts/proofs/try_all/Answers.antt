@@ -47,24 +47,24 @@ put_back-requires c =
       of_front (λ (a : ℕ). top_by c.args.t.scale a ≤ 32767) l.p cs i (λ k. (w.fine k).level),
     )
 
-pub try_one-o-requires : goal.try_one-o-requires
-try_one-o-requires c =
+pub try_one-fitting-requires : goal.try_one-fitting-requires
+try_one-fitting-requires c =
     let l = c.loop-p in
     let w = c.requires.triable in
     put_back_triable _ _ _ _ _ _ _ _ _ w l.p _ (put_is _ _ _ _ _ _ _ _ _ w _ _ _ l.invariant.4 c.put_back.ensures)
     _ _ _ l.invariant.0 l.invariant.1 l.invariant.2
 
-pub returns-in-Fits : goal.returns-in-Fits
-returns-in-Fits c =
+pub returns-in-Some : goal.returns-in-Some
+returns-in-Some c =
     let a = c.args in
     let l = c.loop-p in
     let w = c.requires.triable in
     let e = put_is _ _ _ _ _ _ _ _ _ w l.p l.ms _ l.invariant.4 c.put_back.ensures in
     coded_here a.t a.residuals.now a.coefs.now a.places.now a.ms.now l.p l.ms l.invariant.4
-    (few_enough _ _ _ _ _ _ _ _ _ w l.p c.loop-p-test.true) c.try_one-o.result c.try_one-o.new.levels
-    (subst (λ (m : List ℕ). TriedAs a.t a.residuals.now a.coefs.now a.places.now m c.try_one-o.new.levels
-    c.try_one-o.result) e c.try_one-o.ensures)
-    a.component _ c.in-Fits.is
+    (few_enough _ _ _ _ _ _ _ _ _ w l.p c.loop-p-test.true) c.try_one-fitting.result c.try_one-fitting.new.levels
+    (subst (λ (m : List ℕ). TriedAs a.t a.residuals.now a.coefs.now a.places.now m c.try_one-fitting.new.levels
+    c.try_one-fitting.result) e c.try_one-fitting.ensures)
+    a.component _ c.in-Some.is
 
 pub loop-p-preserved : goal.loop-p-preserved
 loop-p-preserved c =
@@ -74,13 +74,13 @@ loop-p-preserved c =
     let e = put_is _ _ _ _ _ _ _ _ _ w l.p l.ms _ l.invariant.4 c.put_back.ensures in
     let next =
     next_here a.t a.residuals.now a.coefs.now a.places.now a.ms.now l.p l.ms l.invariant.4
-    (few_enough _ _ _ _ _ _ _ _ _ w l.p c.loop-p-test.true) c.try_one-o.result c.try_one-o.new.levels
-    (subst (λ (m : List ℕ). TriedAs a.t a.residuals.now a.coefs.now a.places.now m c.try_one-o.new.levels
-    c.try_one-o.result) e c.try_one-o.ensures)
-    c.in-No.is in (
-      c.try_one-o.auto.levels ∙ l.invariant.0,
-      c.try_one-o.auto.shown ∙ l.invariant.1,
-      c.try_one-o.auto.rows ∙ l.invariant.2,
+    (few_enough _ _ _ _ _ _ _ _ _ w l.p c.loop-p-test.true) c.try_one-fitting.result c.try_one-fitting.new.levels
+    (subst (λ (m : List ℕ). TriedAs a.t a.residuals.now a.coefs.now a.places.now m c.try_one-fitting.new.levels
+    c.try_one-fitting.result) e c.try_one-fitting.ensures)
+    c.in_default.is in (
+      c.try_one-fitting.auto.levels ∙ l.invariant.0,
+      c.try_one-fitting.auto.shown ∙ l.invariant.1,
+      c.try_one-fitting.auto.rows ∙ l.invariant.2,
       length_front l.ms c.put_back.new.ms l.p c.put_back.auto.ms ∙ l.invariant.3,
       subst (Trying a.t a.residuals.now a.coefs.now a.places.now a.ms.now (l.p * 2)) (sym e) next,
     )

@@ -1,13 +1,13 @@
 -- The candidates behind the block that the mode writes, in what code has of it: which is the first that fits, what is
 -- answered and what is left.
-use Rattle.std.specs.Prelude.{◌≡◌, cond, List, [], map, ℕ, suc, ◌+◌, ◌^◌, ◌≤◌, get_or, ℤ}
+use Rattle.std.specs.Prelude.{◌≡◌, cond, List, [], map, ℕ, suc, ◌+◌, ◌^◌, ◌≤◌, get_or, ℤ, Result}
 use Rattle.integers.specs.Tests.{some, listed}
 use Rattle.refusals.specs.declared.Component.{Component}
 use Rattle.refusals.specs.declared.Refusal.TheVariants.{Height}
 use Rattle.refusals.specs.Numbers.{number_of, component_of}
+use Rattle.refusals.specs.declared.Refused.{Refused}
 use Rattle.refusals.specs.Faults.{Outcome, accepted, refused}
 use Rattle.guarding.specs.declared.Guarded.{Guarded}
-use Rattle.guarding.specs.declared.GuardAnswer.{GuardAnswer}
 use Rattle.guarding.specs.Block.{put_back, first_where}
 use Rattle.guarding.specs.Inner.Held.{guard_outcome}
 use Rattle.trial.specs.declared.Terms.{Terms}
@@ -38,7 +38,7 @@ pub record Repairable (t : Terms) (r B : List ℤ) (held cs ms : List ℕ) (leve
   pub small : (k : ℕ) → get_or cs k 0 ≤ 32768
 
 -- the answer, and the levels where it is no refusal
-pub record RepairedAs (t : Terms) (k : Component) (r B : List ℤ) (cs ms : List ℕ) (after : List ℤ) (o : GuardAnswer) :
+pub record RepairedAs (t : Terms) (k : Component) (r B : List ℤ) (cs ms : List ℕ) (after : List ℤ) (o : Result Guarded Refused) :
     Type 0 where
   pub answer : guard_outcome o ≡ answer_by t k r B cs ms
   pub left : (a : Guarded) → guard_outcome o ≡ accepted a → after ≡ levels_by t.log2 B (first_by t r B cs ms)
