@@ -1,5 +1,4 @@
 -- The place that lies farthest by a distance of each, among one more each turn.
--- Assumes nothing.
 use mathlib.Core.Path.{◌≡◌, refl}
 use mathlib.Core.Bool.{Bool, true, false, cond}
 use Prim.Native.Nat.{ℕ, ◌+◌, ◌≤◌}
@@ -11,18 +10,6 @@ use Rattle.shown.specs.declared.Worst.{Worst}
 use Rattle.shown.specs.Shown.{Farthest, farther_of}
 
 module _ (by : ℕ → ℕ) where
-  pub first : (d : ℕ) → d ≡ by 0 → Farthest by 1 (record { most = d; at = 0 })
-  first d e =
-      record {
-        within = omega arith;
-        is = e;
-        none = λ q h. at_most q (omega arith);
-        first = λ q h. absurd (let no : ⊥ = omega arith in no);
-      }
-    where
-      at_most : (q : ℕ) → q ≡ 0 → by q ≤ d
-      at_most q z = rw z (omega arith)
-
   by_test : (best : Worst) (p d : ℕ) → d ≡ by p → Farthest by p best → (t : Bool)
       → ltb best.most d ≡ t → Farthest by (p + 1) (cond t (record { most = d; at = p }) best)
   by_test best p d e f true t =

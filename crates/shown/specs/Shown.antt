@@ -1,7 +1,7 @@
 -- A sample as a residual and back, and the difference and darkening of two pictures. The guess is 700.
 use Rattle.std.specs.Prelude.{◌≡◌, cond, List, ℕ, suc, ◌+◌, ◌-◌, ◌≤◌, ◌<◌, min, ltb, ℤ, pos, negsuc, ◌-ℤ◌, get_or}
 use Rattle.integers.specs.Sum.{sum, on_max, at}
-use Rattle.picture.specs.declared.Size.{Size}
+use Rattle.picture.specs.declared.sides.Size.{Size}
 use Rattle.picture.specs.Picture.{inside_of}
 use Rattle.shown.specs.declared.Worst.{Worst}
 
@@ -37,11 +37,14 @@ unfoldable pub darker_of : (seen view : ℕ) → ℕ
 darker_of seen view = seen - view
 
 -- at place p of two pictures
+abbrev pub distance_in : (ℕ → ℕ → ℕ) → (camera shown : List ℕ) → ℕ → ℕ
+distance_in distance camera shown p = distance (get_or camera p 0) (get_or shown p 0)
+
 abbrev pub apart_in : (camera shown : List ℕ) → ℕ → ℕ
-apart_in camera shown p = apart_of (get_or camera p 0) (get_or shown p 0)
+apart_in = distance_in apart_of
 
 abbrev pub darker_in : (camera shown : List ℕ) → ℕ → ℕ
-darker_in camera shown p = darker_of (get_or camera p 0) (get_or shown p 0)
+darker_in = distance_in darker_of
 
 -- by a distance d of each place: none of the first n lies farther than the one at `at`, and each one before it less far
 pub record Farthest (d : ℕ → ℕ) (n : ℕ) (r : Worst) : Type 0 where

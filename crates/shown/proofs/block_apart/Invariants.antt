@@ -1,13 +1,8 @@
 -- `shown::block_apart` meets its contract: the largest of the first i differences.
-use mathlib.Core.Path.{◌≡◌}
-use Prim.Native.Nat.{◌-◌, ◌≤◌}
+use Rattle.std.proofs.Common.{◌≡◌}
 use Rattle.integers.specs.Sum.{sum, on_max}
 use Rattle.shown.specs.Shown.{apart_at}
 use Rattle.shown.proofs.block_apart.Given as goal
 
 abbrev pub invariant-loop-i : goal.invariant-loop-i
-invariant-loop-i l =
-    (l.i ≤ 64) × (l.top ≡ sum on_max l.i (apart_at l.size l.b l.seen l.view))
-
-abbrev pub decreases-loop-i : goal.decreases-loop-i
-decreases-loop-i l = 64 - l.i
+invariant-loop-i l = l.top ≡ sum on_max l.i (apart_at l.size l.b l.seen l.view)

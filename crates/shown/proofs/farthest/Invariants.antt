@@ -1,11 +1,6 @@
--- `shown::farthest` meets its contract: the farthest of the first p samples.
-use Prim.Native.Nat.{◌-◌, ◌≤◌}
-use Rattle.shown.specs.Shown.{apart_in, Farthest}
+-- `shown::farthest` asks for the worst by the distance that its closure works out.
+use Rattle.shown.specs.Shown.{apart_of}
 use Rattle.shown.proofs.farthest.Given as goal
 
-abbrev pub invariant-loop-p : goal.invariant-loop-p
-invariant-loop-p l =
-    (1 ≤ l.p) × (l.p ≤ l.n) × Farthest (apart_in l.camera l.shown) l.p l.best
-
-abbrev pub decreases-loop-p : goal.decreases-loop-p
-decreases-loop-p l = l.n - l.p
+abbrev pub ghost-worst_by : goal.ghost-worst_by
+ghost-worst_by a = apart_of

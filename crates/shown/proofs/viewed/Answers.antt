@@ -1,37 +1,17 @@
--- `shown::viewed` meets its contract.
-use mir.Facts.{to_z-of_z}
-use Rattle.shown.proofs.Signs.{below, above}
-use native.Mathlib.Omega.{arith}
+-- `shown::viewed` meets its contract: by the residual's sign.
+use Rattle.std.proofs.Common.{◌≡◌, min, ℤ, pos, negsuc, ◌+ℤ◌, w16, arith, to_z-of_z}
+use Rattle.std.specs.Int.{saturate_unsigned}
+use Rattle.std.proofs.lemmas.Int.{ints}
+use Rattle.shown.specs.Shown.{viewed_of}
 use Rattle.shown.proofs.viewed.Goals as goal
 
-pub returns-then-m-lt700 : goal.returns-then-m-lt700
-returns-then-m-lt700 c =
-    let m = c in
-    let f = m.ranges.residual in
-    let a = rw (to_z-of_z f) at m.absolute-m.ensures.0 in
-    let e = below m.args.residual f c.if-residual-lt0.true in
-    (omega (arith, e, a), omega arith)
-
-pub returns-then-residual-lt0 : goal.returns-then-residual-lt0
-returns-then-residual-lt0 c =
-    let m = c in
-    let f = m.ranges.residual in
-    let a = rw (to_z-of_z f) at m.absolute-m.ensures.0 in
-    let e = below m.args.residual f c.if-residual-lt0.true in
-    (omega (arith, e, a), omega arith)
-
-pub returns-then-m-lt324 : goal.returns-then-m-lt324
-returns-then-m-lt324 c =
-    let m = c in
-    let f = m.ranges.residual in
-    let a = rw (to_z-of_z f) at m.absolute-m.ensures.0 in
-    let e = above m.args.residual f c.if-residual-lt0.false in
-    (omega (arith, e, a), omega arith)
+clipped : (z : ℤ) → min (saturate_unsigned w16 (pos 700 +ℤ z)) 1023 ≡ viewed_of z
+unfolding viewed_of
+clipped (pos n) = omega (arith, ints)
+clipped (negsuc n) = omega (arith, ints)
 
 pub returns : goal.returns
 returns c =
-    let m = c in
-    let f = m.ranges.residual in
-    let a = rw (to_z-of_z f) at m.absolute-m.ensures.0 in
-    let e = above m.args.residual f c.if-residual-lt0.false in
-    (omega (arith, e, a), omega arith)
+    let e = clipped c.args.residual in
+    let h = rw (to_z-of_z c.ranges.residual) at c.saturating_add_signed.ensures in
+    (omega arith, omega arith)
