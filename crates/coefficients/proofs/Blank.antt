@@ -1,5 +1,5 @@
 -- A block whose largest magnitude is 0 is all 0, and has no D: there is nothing to clear, and nothing to add up.
--- Assumes nothing.
+--
 use mathlib.Core.Path.{◌≡◌, refl, sym, ap, ◌∙◌}
 use mathlib.Core.List.{List, [], ◌∷◌}
 use Prim.Native.Nat.{ℕ, zero, suc}
@@ -10,7 +10,6 @@ use lib.IntN.{ℤ, pos, negsuc, nat_abs}
 use Rattle.integers.specs.Sum.{over, on_ℕ, on_max}
 use Rattle.price.specs.Level.{square}
 use Rattle.scaling.specs.declared.scale.Scale.{Scale}
-use Rattle.scaling.specs.Inner.Scale.{Sound}
 use Rattle.coefficients.specs.Inner.Coefficients.{zero_distortion}
 use Rattle.coefficients.proofs.Uncoding.{zero_error, zero_distortion_lem}
 
@@ -27,9 +26,9 @@ blank_is_zeros (z ∷ zs) e =
     let others : over on_max nat_abs zs ≡ 0 = omega (arith, le-max_right (nat_abs z) (over on_max nat_abs zs)) in
     ap (λ (x : ℤ). x ∷ zs) (is_zero_lem z first) ∙ ap (λ (l : List ℤ). pos 0 ∷ l) (blank_is_zeros zs others)
 
-module _ (g : Scale) (s : Sound g) where
+module _ (g : Scale) where
   nothing : zero_distortion g (pos 0) ≡ 0
-  nothing = sym (zero_distortion_lem g s (pos 0)) ∙ ap square (let e : zero_error g 0 ≡ 0 = omega arith in e)
+  nothing = sym (zero_distortion_lem g (pos 0)) ∙ ap square (let e : zero_error g 0 ≡ 0 = omega arith in e)
 
   of_zeros : (n : ℕ) → over on_ℕ (zero_distortion g) (replicate n (pos 0)) ≡ 0
   unfolding over

@@ -1,5 +1,5 @@
 -- The largest magnitude of some coefficients tells whether one of them reaches a threshold, and has their largest m:
--- both only grow with the magnitude. Assumes nothing.
+-- both only grow with the magnitude.
 use mathlib.Core.Path.{◌≡◌, refl, sym, ap, ◌∙◌}
 use mathlib.Core.Logic.{⊎_elim}
 use mathlib.Core.Bool.{Bool, true, false, ◌||◌}

@@ -1,7 +1,7 @@
 -- D by three sums: with y the part of an error that is rounded up, (|c|·front - y)² and 2·front·|c|·y are front²·|c|²
 -- and y², place by place and so in their sums. y is at most |c|, so that no sum is above that of the squared
 -- coefficients.
--- Assumes nothing.
+--
 use mathlib.Core.Path.{◌≡◌, sym, ap, ◌∙◌}
 use mathlib.Core.List.{List, [], ◌∷◌}
 use Prim.Native.Nat.{ℕ, ◌+◌, ◌-◌, ◌*◌, ◌/◌, ◌≤◌}

@@ -15,15 +15,15 @@ use Rattle.integers.proofs.Sums.{nats}
 use Rattle.integers.proofs.Over.{over_next, over_end}
 use Rattle.price.specs.Level.{square}
 use Rattle.scaling.specs.declared.scale.Scale.{Scale}
-use Rattle.scaling.specs.Inner.Scale.{Sound}
 use Rattle.coefficients.specs.Inner.Coefficients.{Within, energy, zero_distortion}
 use Rattle.coefficients.proofs.Uncoding.{zero_distortion_lem}
 use Rattle.coefficients.proofs.Small.{rounded_up, crossed, up_square, error_square, crossed_within}
 use Rattle.coefficients.proofs.Small.{up_within, by_three_sums}
 use Rattle.coefficients.proofs.distortion.small_squares.Goals as goal
 
--- ---- the sums with one more: what `absolute` answers of a coefficient, in 15 bits, is its magnitude
-module _ (B : List ℤ) (within : Within B 32767) (i : ℕ) (lt : i < length B) (fits : SFits w16 (get_or B i (pos 0))) where
+-- ---- the sums with one more: what `unsigned_abs` answers of a coefficient, in 15 bits, is its magnitude
+module _ (B : List ℤ) (within : Within B 32767) (i : ℕ) (lt : i < length B)
+    (fits : SFits w16 (get_or B i (pos 0))) where
   magnitude : (got : ℕ) → got ≡ nat_abs (to_z w16 (of_z w16 (get_or B i (pos 0))))
       → got % 32768 ≡ nat_abs (get_or B i (pos 0))
   magnitude got e =
@@ -40,7 +40,7 @@ module _ (B : List ℤ) (within : Within B 32767) (i : ℕ) (lt : i < length B) 
       ∙ e
 
 -- ---- what is left of the sums once all are added: r is the rest, which 15 bits hold
-module _ (g : Scale) (sound : Sound g) (B : List ℤ) (i : ℕ) (end : length B ≤ i) where
+module _ (g : Scale) (B : List ℤ) (i : ℕ) (end : length B ≤ i) where
   abbrev r : ℕ
   r = g.rest % 32768
 
@@ -48,7 +48,7 @@ module _ (g : Scale) (sound : Sound g) (B : List ℤ) (i : ℕ) (end : length B 
   r_few = omega arith
 
   r_is : r ≡ g.rest
-  r_is = omega (arith, sound.wide_rest)
+  r_is = omega (arith, g.sound.wide_rest)
 
   whole : (f : ℤ → ℕ) (sum : ℕ) → sum + over on_ℕ f (drop i B) ≡ over on_ℕ f B → sum ≡ over on_ℕ f B
   whole f sum e = sym (over_end nats f B i sum end) ∙ e
@@ -56,7 +56,7 @@ module _ (g : Scale) (sound : Sound g) (B : List ℤ) (i : ℕ) (end : length B 
   distortion_is : over on_ℕ (error_square g.front r) B ≡ over on_ℕ (zero_distortion g) B
   distortion_is =
       ap (λ (n : ℕ). over on_ℕ (error_square g.front n) B) r_is
-      ∙ ap (λ (f : ℤ → ℕ). over on_ℕ f B) (fun_ext (zero_distortion_lem g sound))
+      ∙ ap (λ (f : ℤ → ℕ). over on_ℕ f B) (fun_ext (zero_distortion_lem g))
 
   sums_are : (aa ay yy : ℕ)
       → aa + over on_ℕ energy (drop i B) ≡ over on_ℕ energy B
@@ -66,71 +66,63 @@ module _ (g : Scale) (sound : Sound g) (B : List ℤ) (i : ℕ) (end : length B 
   sums_are aa ay yy ea ec eu =
       ap (λ (n : ℕ). n + 2 * g.front * ay) (sym distortion_is)
       ∙ ap (λ (n : ℕ). over on_ℕ (error_square g.front r) B + 2 * g.front * n) (whole (crossed r) ay ec)
-      ∙ by_three_sums g.front r sound.some_front r_few B
+      ∙ by_three_sums g.front r g.sound.some_front r_few B
       ∙ ap (λ (n : ℕ). g.front * g.front * n + over on_ℕ (up_square r) B) (sym (whole energy aa ea))
       ∙ ap (λ (n : ℕ). g.front * g.front * aa + n) (sym (whole (up_square r) yy eu))
 
 -- ---- the goals
+pub overflow_add-aa : goal.overflow_add-aa
+overflow_add-aa c =
+    let B = c.args.block.now in
+    let l = c.loop-c in
+    let f : SFits w16 (get_or B l.c-index (pos 0)) = search rules in
+    let more = one_more B c.requires.0 l.c-index c.loop-c-test.true f square l.aa _
+    (c.from-a.ensures ∙ c.unsigned_abs.ensures.value) l.invariant.0 in
+    record { fits = omega (arith, more, c.requires.1) }
+
 pub overflow_add-ay : goal.overflow_add-ay
 overflow_add-ay c =
     let B = c.args.block.now in
-    let l = c.loop-i in
-    let r = c.args.g.rest % 32768 in
-    let f : SFits w16 (get_or B l.i (pos 0)) = search rules in
-    record {
-      fits = omega (
-        arith,
-        one_more B c.requires.1 l.i c.loop-i-test.true f (λ a. a * rounded_up r a) l.ay _ c.absolute-a.ensures.0
-            l.invariant.2,
-        crossed_within r (omega arith) B,
-        c.requires.2,
-      );
-    }
+    let l = c.loop-c in
+    let r = c.args.scale.rest % 32768 in
+    let f : SFits w16 (get_or B l.c-index (pos 0)) = search rules in
+    let more = one_more B c.requires.0 l.c-index c.loop-c-test.true f (λ a. a * rounded_up r a) l.ay _
+    (c.from-a.ensures ∙ c.unsigned_abs.ensures.value) l.invariant.1 in
+    record { fits = omega (arith, more, crossed_within r (omega arith) B, c.requires.1) }
 
 pub overflow_add-yy : goal.overflow_add-yy
 overflow_add-yy c =
     let B = c.args.block.now in
-    let l = c.loop-i in
-    let r = c.args.g.rest % 32768 in
-    let f : SFits w16 (get_or B l.i (pos 0)) = search rules in
-    record {
-      fits = omega (
-        arith,
-        one_more B c.requires.1 l.i c.loop-i-test.true f (λ a. square (rounded_up r a)) l.yy _ c.absolute-a.ensures.0
-            l.invariant.3,
-        up_within r (omega arith) B,
-        c.requires.2,
-      );
-    }
+    let l = c.loop-c in
+    let r = c.args.scale.rest % 32768 in
+    let f : SFits w16 (get_or B l.c-index (pos 0)) = search rules in
+    let more = one_more B c.requires.0 l.c-index c.loop-c-test.true f (λ a. square (rounded_up r a)) l.yy _
+    (c.from-a.ensures ∙ c.unsigned_abs.ensures.value) l.invariant.2 in
+    record { fits = omega (arith, more, up_within r (omega arith) B, c.requires.1) }
 
-pub loop-i-preserved : goal.loop-i-preserved
-loop-i-preserved c =
+pub loop-c-preserved : goal.loop-c-preserved
+loop-c-preserved c =
     let B = c.args.block.now in
-    let l = c.loop-i in
-    let r = c.args.g.rest % 32768 in
-    let f : SFits w16 (get_or B l.i (pos 0)) = search rules in
-    let next = one_more B c.requires.1 l.i c.loop-i-test.true f in
-    let e = c.absolute-a.ensures.0 in (
-      omega arith,
-      next square l.aa _ e l.invariant.1,
-      next (λ a. a * rounded_up r a) l.ay _ e l.invariant.2,
-      next (λ a. square (rounded_up r a)) l.yy _ e l.invariant.3,
+    let l = c.loop-c in
+    let r = c.args.scale.rest % 32768 in
+    let f : SFits w16 (get_or B l.c-index (pos 0)) = search rules in
+    let next = one_more B c.requires.0 l.c-index c.loop-c-test.true f in
+    let e = c.from-a.ensures ∙ c.unsigned_abs.ensures.value in (
+      next square l.aa _ e l.invariant.0,
+      next (λ a. a * rounded_up r a) l.ay _ e l.invariant.1,
+      next (λ a. square (rounded_up r a)) l.yy _ e l.invariant.2,
     )
 
 pub overflow_sub-result : goal.overflow_sub-result
 overflow_sub-result c =
-    let l = c.loop-i in
-    omega (
-      arith,
-      sums_are c.args.g c.requires.0 c.args.block.now l.i c.loop-i-test.false l.aa l.ay l.yy l.invariant.1 l.invariant.2
-          l.invariant.3,
-    )
+    let l = c.loop-c in
+    let sums = sums_are c.args.scale c.args.block.now l.c-index c.loop-c-test.false l.aa l.ay l.yy l.invariant.0
+    l.invariant.1 l.invariant.2 in
+    rw (c.from-front.ensures, c.from.ensures, c.from-2.ensures, c.from-3.ensures) (omega (arith, sums))
 
 pub returns : goal.returns
 returns c =
-    let l = c.loop-i in
-    omega (
-      arith,
-      sums_are c.args.g c.requires.0 c.args.block.now l.i c.loop-i-test.false l.aa l.ay l.yy l.invariant.1 l.invariant.2
-          l.invariant.3,
-    )
+    let l = c.loop-c in
+    let sums = sums_are c.args.scale c.args.block.now l.c-index c.loop-c-test.false l.aa l.ay l.yy l.invariant.0
+    l.invariant.1 l.invariant.2 in
+    rw (c.from-front.ensures, c.from.ensures, c.from-2.ensures, c.from-3.ensures) (omega (arith, sums))

@@ -1,57 +1,66 @@
 -- `coefficients::distortion::squares` meets its contract: an error by two 32-bit products, and its square.
 use mathlib.Core.Path.{◌≡◌, sym, ap, ◌∙◌}
-use Prim.Native.Nat.{◌*◌, ◌+◌}
+use Prim.Native.Nat.{◌*◌, ◌+◌, ◌≤◌}
 use native.Mathlib.Omega.{arith}
-use lib.ListN.{length, get_or}
+use lib.ListN.{length}
 use lib.IntN.{pos, nat_abs}
 use mir.Syntax.{w16}
 use mir.Val.{SFits}
 use mir.Facts.{to_z-of_z}
 use borrow.Author.Rules.{rules}
+use Rattle.integers.specs.Sum.{at}
 use Rattle.integers.proofs.Sums.{nats}
 use Rattle.integers.proofs.Over.{over_next, over_end}
+use Rattle.price.specs.Level.{square}
 use Rattle.coefficients.specs.Inner.Coefficients.{zero_distortion}
 use Rattle.coefficients.proofs.Uncoding.{zero_error, most_square, parts, squares_next, squares_fit}
 use Rattle.coefficients.proofs.Uncoding.{zero_distortion_lem}
+use Rattle.coefficients.proofs.distortion.squares.Goals.{After-from-x}
 use Rattle.coefficients.proofs.distortion.squares.Goals as goal
+
+-- the error of the coefficient, and its square
+error_is : (c : After-from-x) → c.from-x.result ≡ zero_error c.args.scale (nat_abs (at c.args.part.now c.loop-c.c-index))
+error_is c =
+    let z = at c.args.part.now c.loop-c.c-index in
+    let f : SFits w16 z = search rules in
+    let a = c.unsigned_abs.ensures.value ∙ ap nat_abs (to_z-of_z {w = w16} {z = z} f) in
+    c.from-x.ensures ∙ ap (zero_error c.args.scale) (c.from-a.ensures ∙ a)
+
+square_at_most : (c : After-from-x) → c.from-x.result * c.from-x.result ≤ most_square c.args.scale
+square_at_most c =
+    let l = c.loop-c in
+    let b = parts c.args.scale (nat_abs (at c.args.part.now l.c-index)) (c.requires.1 l.c-index) in
+    rw (error_is c) b.square
 
 pub overflow_add-sum : goal.overflow_add-sum
 overflow_add-sum c =
-    let g = c.args.g in
-    let l = c.loop-i in
-    let z = get_or c.args.part.now l.i (pos 0) in
-    let f : SFits w16 z = search rules in
-    let a : c.absolute-a.result ≡ nat_abs z = c.absolute-a.ensures.0 ∙ ap nat_abs (to_z-of_z {w = w16} {z = z} f) in
-    let b = parts g c.requires.0 c.absolute-a.result (rw a (c.requires.2 l.i)) in
+    let g = c.args.scale in
+    let l = c.loop-c in
     record {
       fits = omega (
         arith,
-        squares_next l.i (most_square g) l.sum _ l.invariant.2 b.square,
-        squares_fit g (length c.args.part.now) (l.i + 1) (omega arith) c.requires.1,
+        squares_next l.c-index (most_square g) l.sum _ l.invariant.1 (square_at_most c),
+        squares_fit g (length c.args.part.now) (l.c-index + 1) (omega arith) c.requires.0,
       );
     }
 
-pub loop-i-preserved : goal.loop-i-preserved
-loop-i-preserved c =
-    let g = c.args.g in
-    let l = c.loop-i in
+pub loop-c-preserved : goal.loop-c-preserved
+loop-c-preserved c =
+    let g = c.args.scale in
+    let l = c.loop-c in
     let part = c.args.part.now in
-    let z = get_or part l.i (pos 0) in
-    let f : SFits w16 z = search rules in
-    let a : c.absolute-a.result ≡ nat_abs z = c.absolute-a.ensures.0 ∙ ap nat_abs (to_z-of_z {w = w16} {z = z} f) in
-    let b = parts g c.requires.0 c.absolute-a.result (rw a (c.requires.2 l.i)) in
-    let e : zero_error g c.absolute-a.result * zero_error g c.absolute-a.result ≡ zero_distortion g z =
-    rw a (zero_distortion_lem g c.requires.0 z) in (
-      omega arith,
-      rw e (over_next nats (zero_distortion g) part l.i (pos 0) l.sum c.loop-i-test.true ∙ l.invariant.1),
-      squares_next l.i (most_square g) l.sum _ l.invariant.2 b.square,
+    let x = c.from-x.result in
+    let e : x * x ≡ zero_distortion g (at part l.c-index) =
+    ap square (error_is c) ∙ zero_distortion_lem g (at part l.c-index) in (
+      rw e (over_next nats (zero_distortion g) part l.c-index (pos 0) l.sum c.loop-c-test.true ∙ l.invariant.0),
+      squares_next l.c-index (most_square g) l.sum _ l.invariant.1 (square_at_most c),
     )
 
 pub returns : goal.returns
 returns c =
-    let g = c.args.g in
+    let g = c.args.scale in
     let part = c.args.part.now in
-    let l = c.loop-i in (
-      sym (over_end nats (zero_distortion g) part l.i l.sum c.loop-i-test.false) ∙ l.invariant.1,
-      omega (arith, l.invariant.2, squares_fit g (length part) l.i l.invariant.0 c.requires.1),
+    let l = c.loop-c in (
+      sym (over_end nats (zero_distortion g) part l.c-index l.sum c.loop-c-test.false) ∙ l.invariant.0,
+      omega (arith, l.invariant.1, squares_fit g (length part) l.c-index l.auto.c-index-end c.requires.0),
     )
