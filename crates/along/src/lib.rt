@@ -2,19 +2,17 @@
 // totals and the levels are the definition's (specs/Walk.antt and specs/Inner/OnePass.antt of `price`).
 #![tactic(auto)]
 
-ghost use Rattle.std.specs.Prelude.{◌≡◌, cond, ◌<◌, ◌+◌, ◌*◌, length};
+ghost use Rattle.std.specs.Prelude.{◌≡◌, cond, ◌<◌, ◌+◌};
 ghost use Rattle.price.specs.Rule.{is_zero};
-ghost use Rattle.price.specs.Price.{nonzeros};
-ghost use Rattle.weights.specs.Inner.Places.{Scanned, Cleared};
+ghost use Rattle.weights.specs.Inner.Chosen.{Blank};
 ghost use Rattle.along.specs.Inner.Walking.{Begins, WalkedOver};
 
-use scaling::scale::Scale;
-use scan::{block_place, magnitude_at, put_magnitude, scan_place};
+use scan::{put, scan_place, value_at};
 use step::Walk;
-use weights::prices::Prices;
+use weights::kept::Kept;
 
 // The totals where the walk stops, and how many places come up to and with the last nonzero level.
-#[derive(Drop)]
+#[derive(Clone, Copy)]
 pub struct Walked {
     pub walk: Walk,
     pub end: usize,
@@ -28,35 +26,26 @@ fn end_with(level: u64, n: usize, end: usize) -> usize
     if level == 0 { end } else { n + 1 }
 }
 
-// `count` places have an m above 0. The walk stops behind the last of them: the others change neither the best price
-// nor the cut.
-pub fn walk_places(
-    kept: &[u16],
-    levels: &mut [u16],
-    scan: &[u16],
-    w: usize,
-    h: usize,
-    p: Prices,
-    g: Scale,
-    first: Walk,
-    count: usize,
-) -> Walked
-    requires { Scanned w h scan.now × Begins p g first w h kept.now × (count ≡ nonzeros kept.now)
-        × (length levels.old ≡ w * h) × Cleared levels.old }
-    ensures { WalkedOver p g first w h kept.now levels.new result }
+// From the totals `first`. The walk stops behind the last place where something is kept: the others change neither the
+// best price nor the cut.
+pub fn walk_places(kept: Kept, levels: &mut [u16], first: Walk) -> Walked
+    requires { Begins kept first × Blank kept levels.old }
+    ensures { WalkedOver kept.entry first levels.new result }
 {
+    let weights = kept.weights;
     let mut totals = first;
-    let mut left = count;
+    let mut left = kept.count;
     let mut end = 0;
     let mut n = 0;
+    // Kept: the loop ends with what is left to step at, which a `for` over the places would test beside its own end.
     while 0 < left {
-        let place = block_place(scan, w, h, scan_place(n));
-        let a = magnitude_at(kept, place);
+        let place = kept.scan.block_place(scan_place(n));
+        let a = value_at(kept.magnitudes, place);
         if a == 0 {
-            totals = totals.pass(p);
+            totals = totals.pass(weights.prices);
         } else {
-            totals = totals.step(n, p, g, a as u64 * g.q as u64);
-            put_magnitude(levels, place, totals.prev as u16);
+            totals = totals.step(n, weights, a as u64 * weights.scale.q as u64);
+            put(levels, place, totals.prev as u16);
             end = end_with(totals.prev, n, end);
             left -= 1;
         }

@@ -1,6 +1,6 @@
 -- The walk's step by one offer: of 0, m and m - 1 the choice is the same when the cheaper of m and m - 1 is weighed
 -- against 0, and that cheaper one does not depend on the level before, whose price is in both. A place with m = 0 is
--- passed. Assumes nothing.
+-- passed.
 use mathlib.Core.Path.{◌≡◌, refl, sym, ap, ◌∙◌}
 use mathlib.Core.Bool.{Bool, true, false, cond}
 use Prim.Native.Nat.{ℕ, zero, suc, ◌+◌, ◌-◌, ◌≤◌, ◌<◌}

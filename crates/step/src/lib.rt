@@ -4,17 +4,15 @@
 
 ghost use Rattle.std.specs.Prelude.{◌≡◌, ◌≤◌, ◌^◌};
 ghost use Rattle.price.specs.Inner.OnePass.{step};
-ghost use Rattle.weights.specs.Inner.Prices.{Modest, rule_by};
+ghost use Rattle.weights.specs.Inner.Prices.{rule_by};
 ghost use Rattle.step.specs.Inner.Totals.{Ready, totals_of, passed};
 
-use scaling::errors::squared_below;
-use scaling::scale::Scale;
-use weights::offers::make_offer;
+use weights::Weights;
 use weights::prices::Prices;
 
 // The running totals. base: the coded flag, what is walked with its flags, and the uncoded squares behind it; best and
 // cut: the least price of a cut so far, and how many places it keeps; prev: the level before.
-#[derive(Drop)]
+#[derive(Clone, Copy)]
 pub struct Walk {
     pub base: u64,
     pub best: u64,
@@ -24,51 +22,49 @@ pub struct Walk {
 
 impl Walk {
     // A place with m = 0.
-    pub fn pass(self, p: Prices) -> Walk
-        requires { Modest p × (self.base ≤ 2 ^ 62) }
-        ensures { totals_of result ≡ passed p (totals_of self) }
+    pub fn pass(self, prices: Prices) -> Walk
+        requires { self.base ≤ 2 ^ 62 }
+        ensures { totals_of result ≡ passed prices (totals_of self) }
     {
         Walk {
-            base: self.base + p.zero_at(self.prev),
-            best: self.best,
-            cut: self.cut,
+            base: self.base + prices.zero_at(self.prev),
             prev: 0,
+            ..self
         }
     }
 
     // Place n, whose m is above 0.
-    pub fn step(self, n: usize, p: Prices, g: Scale, l: u64) -> Walk
-        requires { Ready p g self n l }
-        ensures { totals_of result ≡ step (rule_by p g) n (totals_of self) l }
+    pub fn step(self, n: usize, weights: Weights, l: u64) -> Walk
+        requires { Ready weights.prices weights.scale self n l }
+        ensures { totals_of result ≡ step (rule_by weights.prices weights.scale) n (totals_of self) l }
     {
-        let offer = make_offer(p, g, l, false);
-        let d = squared_below(g, l, 0);
-        let zero = p.zero_at(self.prev);
-        let c = offer.price + p.head_at(self.prev);
+        let prices = weights.prices;
+        let offer = weights.offer(l, false);
+        let d = weights.scale.squared_below(l, 0);
+        let zero = prices.zero_at(self.prev);
+        let c = offer.price + prices.head_at(self.prev);
         if d + zero <= c {
             return Walk {
                 base: self.base + zero,
-                best: self.best,
-                cut: self.cut,
                 prev: 0,
+                ..self
             };
         }
         let b = self.base - d + c;
-        let ended = b + p.last;
+        let ended = b + prices.last;
+        let on = Walk {
+            base: b + prices.more,
+            prev: offer.level,
+            ..self
+        };
         if ended < self.best {
             Walk {
-                base: b + p.more,
                 best: ended,
                 cut: n + 1,
-                prev: offer.level,
+                ..on
             }
         } else {
-            Walk {
-                base: b + p.more,
-                best: self.best,
-                cut: self.cut,
-                prev: offer.level,
-            }
+            on
         }
     }
 }

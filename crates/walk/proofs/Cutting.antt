@@ -1,5 +1,5 @@
 -- The cut: levels from it on are 0, and before it as they were walked. With the walk from its first totals that is the
--- block that the definition writes, and its price. Assumes nothing.
+-- block that the definition writes, and its price.
 use mathlib.Core.Path.{◌≡◌, refl, sym, ap, subst, ◌∙◌}
 use mathlib.Core.Logic.{◌⊎◌, inl, inr, ⊎_elim, ◌≢◌}
 use mathlib.Core.Bool.{Bool, true, false, cond, ◌&&◌}
@@ -18,11 +18,12 @@ use Rattle.price.specs.Price.{uncoded, price}
 use Rattle.price.specs.Walk.{walked, cut_at, cut_of, written}
 use Rattle.price.specs.Inner.OnePass.{Totals, start_with, walk}
 use Rattle.price.proofs.OnePass.{one_pass_cut_with, one_pass_price_with}
-use Rattle.scaling.specs.declared.scale.Scale.{Scale}
-use Rattle.weights.specs.declared.prices.Prices.{Prices}
+use Rattle.scan.specs.Scanned.{Scanned}
+use Rattle.price.specs.Rule.{Rule}
+use Rattle.weights.specs.declared.kept.Kept.{Kept}
 use Rattle.weights.specs.Inner.Prices.{rule_by}
-use Rattle.weights.specs.Inner.Places.{kept_places, Scanned, Standing}
-use Rattle.weights.specs.Inner.Choosing.{ChosenBy}
+use Rattle.weights.specs.Inner.Places.{Standing}
+use Rattle.weights.specs.Inner.Chosen.{rule_of, places_of, ChosenBy}
 use Rattle.step.specs.Inner.Totals.{totals_of}
 use Rattle.along.specs.declared.Walked.{Walked}
 use Rattle.along.specs.Inner.Walking.{WalkedOver}
@@ -63,37 +64,39 @@ cut_levels width height cut end ls before after s t c k h =
         (below_or_not k cut)
 
 -- ---- the whole, from the first totals
-module _ (p : Prices) (g : Scale) (d width height : ℕ) (kept : List ℕ)
-    (left : uncoded (rule_by p g) (kept_places g width height kept) ≤ d) where
-  abbrev whole : Totals
-  whole = walk (rule_by p g) 0 (totals_of (first_totals p d)) (kept_places g width height kept)
+module _ (k : Kept) where
+  abbrev r : Rule
+  r = rule_of k
 
-  from_start : whole ≡ walk (rule_by p g) 0 (start_with (rule_by p g) d) (kept_places g width height kept)
+  abbrev ps : List ℕ
+  ps = places_of k
+
+  abbrev whole : Totals
+  whole = walk r 0 (totals_of (first_totals k.weights.prices k.d)) ps
+
+  from_start : whole ≡ walk r 0 (start_with r k.d) ps
   unfolding start_with rule_by
   from_start = refl
 
-  whole_cut : whole.cut ≡ cut_of (rule_by p g) (kept_places g width height kept)
-  whole_cut =
-      ap (λ (t : Totals). t.cut) from_start ∙ one_pass_cut_with (rule_by p g) (kept_places g width height kept) d left
+  whole_cut : whole.cut ≡ cut_of r ps
+  whole_cut = ap (λ (t : Totals). t.cut) from_start ∙ one_pass_cut_with r ps k.d k.choosable.left
 
-  whole_price : (let r = rule_by p g in let ps = kept_places g width height kept in
-      whole.best + uncoded r ps ≡ d + price r (written r ps) ps)
+  whole_price : whole.best + uncoded r ps ≡ k.d + price r (written r ps) ps
   whole_price =
-      ap (λ (t : Totals). t.best + uncoded (rule_by p g) (kept_places g width height kept)) from_start
-      ∙ one_pass_price_with (rule_by p g) (kept_places g width height kept) d left
+      ap (λ (t : Totals). t.best + uncoded r ps) from_start ∙ one_pass_price_with r ps k.d k.choosable.left
 
-  pub chosen_by : (before after : List ℕ) (r : Walked) → WalkedOver p g (first_totals p d) width height kept before r
-      → CutBehind width height r.walk.cut r.end before after
-      → ChosenBy written p g d width height kept after r.walk.best
+  pub chosen_by : (before after : List ℕ) (o : Walked) → WalkedOver k (first_totals k.weights.prices k.d) before o
+      → CutBehind k.scan.w k.scan.h o.walk.cut o.end before after
+      → ChosenBy written k after o.walk.best
   unfolding written
-  chosen_by before after r o c =
-      let ls = walked (rule_by p g) false (kept_places g width height kept) in
+  chosen_by before after o by c =
+      let ls = walked r false ps in
       record {
         room = c.room;
         levels =
-            subst (λ (k : ℕ). Standing width height after (cut_at k ls)) (o.cut ∙ whole_cut)
-            (cut_levels width height r.walk.cut r.end ls before after o.levels o.tail c);
-        price = ap (λ (x : ℕ). x + uncoded (rule_by p g) (kept_places g width height kept)) o.best ∙ whole_price;
+            subst (λ (n : ℕ). Standing k.scan.w k.scan.h after (cut_at n ls)) (by.cut ∙ whole_cut)
+            (cut_levels k.scan.w k.scan.h o.walk.cut o.end ls before after by.levels by.tail c);
+        price = ap (λ (x : ℕ). x + uncoded r ps) by.best ∙ whole_price;
       }
 
 -- the loop that cuts: at n it has put 0 at the places from the cut to n

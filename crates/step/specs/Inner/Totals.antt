@@ -4,9 +4,8 @@ use Rattle.price.specs.Level.{nearest, distortion}
 use Rattle.price.specs.Rule.{is_zero}
 use Rattle.price.specs.Inner.OnePass.{Totals}
 use Rattle.scaling.specs.declared.scale.Scale.{Scale}
-use Rattle.scaling.specs.Inner.Scale.{Sound}
 use Rattle.weights.specs.declared.prices.Prices.{Prices}
-use Rattle.weights.specs.Inner.Prices.{Modest, zero_price, Fine}
+use Rattle.weights.specs.Inner.Prices.{zero_price, Fine}
 use Rattle.step.specs.declared.Walk.{Walk}
 
 abbrev pub totals_of : Walk → Totals
@@ -18,8 +17,6 @@ passed p w = record { base = w.base + zero_price p (is_zero w.prev); best = w.be
 
 -- what a step at place n needs
 pub record Ready (p : Prices) (g : Scale) (w : Walk) (n L : ℕ) : Type 0 where
-  pub modest : Modest p
-  pub sound : Sound g
   pub fine : Fine p g L
   pub some : 1 ≤ nearest g.shift L
   pub left : distortion g.shift g.error L 0 ≤ w.base

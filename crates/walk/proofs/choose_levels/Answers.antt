@@ -1,8 +1,6 @@
--- `walk::choose_levels` meets its contract: the walk from its first totals, then its cut.
+-- The walk from its first totals, then its cut.
 use Rattle.walk.proofs.Cutting.{chosen_by}
 use Rattle.walk.proofs.choose_levels.Goals as goal
 
 pub returns : goal.returns
-returns c =
-    chosen_by _ _ _ _ _ _ c.requires.left _ _ _ c.walk_places-walked.ensures
-    c.cut_behind.ensures
+returns c = chosen_by _ _ _ _ c.walk_places-walked.ensures c.cut_behind.ensures
