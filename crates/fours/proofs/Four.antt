@@ -1,6 +1,5 @@
 -- Four sums back to values, as the machine works them out in 64 bits: 64 times the sum and the difference of the even
 -- ones, and what the odd ones give, added and taken away. Every step fits, and the four are the values.
--- Assumes nothing.
 use mathlib.Core.Path.{◌≡◌, sym, ◌∙◌, ap, subst}
 use mathlib.Core.List.{List}
 use Prim.Native.Nat.{ℕ, ◌+◌, ◌*◌, ◌^◌, ◌<◌, ◌≤◌}

@@ -1,6 +1,5 @@
 -- The rows of a block 4 wide, each replaced by the residuals of its line of sums: a row is lent, and comes back between
 -- what stood before it and what stood behind it.
--- Assumes nothing.
 use mathlib.Core.Path.{◌≡◌, refl, ◌∙◌, subst}
 use mathlib.Core.List.{List}
 use Prim.Native.Nat.{ℕ, ◌+◌, ◌-◌, ◌*◌, ◌<◌, ◌≤◌}

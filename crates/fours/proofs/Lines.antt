@@ -1,6 +1,5 @@
 -- The lines of four sums, one after the other: the residuals of the part that is handed on are those of line j, and
 -- when they go down column j, one line more stands in its column.
--- Assumes nothing.
 use mathlib.Core.Path.{◌≡◌, refl, sym, ◌∙◌, ap, subst}
 use mathlib.Core.List.{List}
 use Prim.Native.Nat.{ℕ, ◌+◌, ◌*◌, ◌<◌, ◌≤◌}

@@ -1,5 +1,4 @@
 -- A sum settled as the machine settles it, in 64 bits: each step fits, and what is clipped is the rounded sum.
--- Assumes nothing.
 use mathlib.Core.Path.{◌≡◌, ◌∙◌, ap}
 use Prim.Native.Nat.{◌+◌, ◌^◌, ◌≤◌}
 use native.Mathlib.Omega.{arith}

@@ -1,5 +1,4 @@
 -- A block 4 wide that is turned: the loop hands row after row on, and row k goes down column k of the grid.
--- Assumes nothing.
 use mathlib.Core.Path.{◌≡◌, refl, ◌∙◌, subst}
 use mathlib.Core.List.{List}
 use Prim.Native.Nat.{ℕ, ◌+◌, ◌*◌, ◌<◌, ◌≤◌}

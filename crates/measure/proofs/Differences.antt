@@ -1,6 +1,5 @@
 -- How far a number of 16 bits lies above another, by a test of which is larger: their difference, which fits 16 bits
 -- without a sign, or 0. And one place more of the largest such distance.
--- Assumes nothing.
 use mathlib.Core.Path.{◌≡◌, refl, sym, ap, subst, ◌∙◌}
 use mathlib.Core.Bool.{Bool, true, false, not}
 use mathlib.Core.List.{List}

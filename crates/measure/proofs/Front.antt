@@ -1,5 +1,4 @@
 -- The two extremes of a block by what was shown of it, and that they are those of the front of either list.
--- Assumes nothing.
 use mathlib.Core.Path.{◌≡◌, ap, ◌∙◌}
 use mathlib.Core.List.{List}
 use Prim.Native.Nat.{ℕ, ◌*◌, ◌^◌}
@@ -29,9 +28,11 @@ module _ (row : List ℕ) (l qp : ℕ) (r levels : List ℤ) where
       (d ∙ ap (λ (m : ℕ). darker m r shown) long ∙ ap (darker n r) is)
       (f ∙ ap (λ (m : ℕ). lighter m r shown) long ∙ ap (lighter n r) is)
 
-  pub extremes_front : extremes row l qp (take (2 ^ l * 2 ^ l) r) (take (2 ^ l * 2 ^ l) levels)
-      ≡ extremes row l qp r levels
-  extremes_front =
+  -- the front that a caller counts as a · a
+  pub extremes_front : (a : ℕ) → a ≡ 2 ^ l
+      → extremes row l qp (take (a * a) r) (take (a * a) levels) ≡ extremes row l qp r levels
+  extremes_front a e =
       let n = 2 ^ l * 2 ^ l in
-      front_decides row l qp (take n r) r (take n levels) levels (λ i h. get_or-take n r i (pos 0) h)
-      (take-take n n levels (omega arith))
+      rw e
+      (front_decides row l qp (take n r) r (take n levels) levels (λ i h. get_or-take n r i (pos 0) h)
+      (take-take n n levels (omega arith)))

@@ -1,4 +1,3 @@
 pub mod Differences
 pub mod Zeros
 pub mod Front
-pub mod Faults

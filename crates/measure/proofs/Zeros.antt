@@ -1,6 +1,5 @@
 -- Levels that are 0 throughout are decoded to themselves, whatever the scales and the QP: so a block without levels
 -- need not be decoded.
--- Assumes nothing.
 use mathlib.Core.Path.{◌≡◌, refl, sym, ap, ◌∙◌}
 use mathlib.Core.List.{List, ◌∷◌, map}
 use Prim.Native.Nat.{ℕ, zero, suc, ◌+◌, ◌*◌, ◌/◌, ◌%◌, ◌^◌}

@@ -15,6 +15,8 @@ use refusals::{Refusal, no_side, side};
 use rescale::rescale;
 use residuals::block::restore;
 
+const MOST_QP: u32 = 63;
+
 // a - b, 0 at least. It fits 16 bits without a sign, so that the compiler makes eight at a time.
 fn above(a: i16, b: i16) -> u16
     ensures { result ≡ above a b }
@@ -74,6 +76,7 @@ pub fn look(
 }
 
 // The two extremes of the square block at the front of either list.
+#[tactic(auto, using(crate::proofs::Front::extremes_front), unfolding(heights::specs::Call::measure_answer))]
 pub fn measure(
     residuals: &[i16],
     levels: &[i16],
@@ -86,7 +89,7 @@ pub fn measure(
     if no_side(log2_side) {
         return Err(Refusal::Side);
     }
-    if 63 < qp {
+    if MOST_QP < qp {
         return Err(Refusal::Qp);
     }
     let a = side(log2_side);

@@ -1,7 +1,6 @@
 -- A number of the first stage in its two parts, and their sums joined, as the machine works them out: every step fits,
 -- and the results are the definitions'. What callers need of the parts: how large they are, and that they make up the
 -- number.
--- Assumes nothing.
 use mathlib.Core.Path.{◌≡◌, sym, ◌∙◌, ap}
 use Prim.Native.Nat.{◌≤◌}
 use native.Mathlib.Omega.{arith}

@@ -1,7 +1,6 @@
 -- A level scaled back as the code does it fits 16 bits, and is the definition's: what factor and shift have in common
 -- goes out of both. Where QP/6 is above log2 of the side, that is the whole shift, and nothing is left to round;
 -- elsewhere it is the whole power of QP/6. The factor that is left fits 16 bits, and the half and the shift are small.
--- Assumes nothing.
 use mathlib.Core.Path.{◌≡◌, refl, sym, ap, ◌∙◌}
 use mathlib.Core.List.{List}
 use Prim.Native.Nat.{ℕ, ◌+◌, ◌-◌, ◌*◌, ◌/◌, ◌^◌, ◌≤◌, ◌<◌}

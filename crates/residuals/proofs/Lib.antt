@@ -1,4 +1,4 @@
 pub mod Whole
 pub mod Two
-pub mod Verdict
-pub mod Scaling
+pub mod Front
+pub mod Rooms

@@ -1,5 +1,4 @@
 -- A block of 2 by 2, once its four places hold what was settled: it is the definition's list.
--- Assumes nothing.
 use mathlib.Core.Path.{◌≡◌, sym, ◌∙◌, ap}
 use mathlib.Core.List.{List}
 use Prim.Native.Nat.{ℕ, zero, suc, ◌/◌, ◌%◌, ◌<◌}

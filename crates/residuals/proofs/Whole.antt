@@ -1,6 +1,5 @@
 -- The two stages, the second on either part of what the first left, are the double sum; how large the sums of each are;
 -- and when each place holds its residual, the block is the list that the definition says.
--- Assumes nothing.
 use mathlib.Core.Path.{◌≡◌, refl, sym, ◌∙◌, ap, subst}
 use mathlib.Core.List.{List}
 use Prim.Native.Nat.{ℕ, ◌+◌, ◌*◌, ◌/◌, ◌%◌, ◌^◌, ◌<◌, ◌≤◌}

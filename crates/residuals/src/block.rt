@@ -40,13 +40,13 @@ fn both_stages(
 fn plus(p: i16, q: i16) -> i32
     ensures { (result ≡ p +ℤ q) × (nat_abs result ≤ 65536) }
 {
-    (p as i32) + (q as i32)
+    i32::from(p) + i32::from(q)
 }
 
 fn minus(p: i16, q: i16) -> i32
     ensures { (result ≡ p -ℤ q) × (nat_abs result ≤ 65536) }
 {
-    (p as i32) - (q as i32)
+    i32::from(p) - i32::from(q)
 }
 
 // 4096 times z, rounded by the 17 bits: 12 of them have nothing to round.
@@ -113,63 +113,79 @@ fn four_wide(block: &mut [i16], x: &mut [i32], columns: &mut [i16], lh: usize)
     last_rows(h, x, block);
 }
 
-// Blocks with a side of 4 in rooms of their own.
+// A block 4 high in a room of N places.
+fn high_in_rooms<const N: usize>(block: &mut [i16], lw: usize)
+    requires le_lw { (1 ≤ lw) × (lw ≤ most_log2) × (N ≤ 1024) }
+    requires block_len { (length block.old ≡ 2 ^ lw * 4) × (length block.old ≤ N) }
+    ensures { block.new ≡ residuals block.old lw 2 }
+{
+    let n = block.len();
+    let mut x = [0i32; N];
+    four_high(block, &mut x[..n], lw);
+}
+
+#[tactic(auto, using(crate::proofs::Rooms::side_small))]
 fn restore_high(block: &mut [i16], lw: usize)
     requires { (1 ≤ lw) × (lw ≤ most_log2) × (length block.old ≡ 2 ^ lw * 4) }
     ensures { block.new ≡ residuals block.old lw 2 }
 {
-    let n = block.len();
-    if n <= 32 {
-        let mut x = [0i32; 32];
-        four_high(block, &mut x[..n], lw);
-        return;
+    if block.len() <= 32 {
+        high_in_rooms::<32>(block, lw);
+    } else {
+        high_in_rooms::<128>(block, lw);
     }
-    let mut x = [0i32; 128];
-    four_high(block, &mut x[..n], lw);
 }
 
+// A block 4 wide in rooms of N places.
+fn wide_in_rooms<const N: usize>(block: &mut [i16], lh: usize)
+    requires le_lh { (1 ≤ lh) × (lh ≤ most_log2) × (N ≤ 1024) }
+    requires block_len { (length block.old ≡ 4 * 2 ^ lh) × (length block.old ≤ N) }
+    ensures { block.new ≡ residuals block.old 2 lh }
+{
+    let n = block.len();
+    let mut x = [0i32; N];
+    let mut columns = [0i16; N];
+    four_wide(block, &mut x[..n], &mut columns[..n], lh);
+}
+
+#[tactic(auto, using(crate::proofs::Rooms::side_small))]
 fn restore_wide(block: &mut [i16], lh: usize)
     requires { (1 ≤ lh) × (lh ≤ most_log2) × (length block.old ≡ 4 * 2 ^ lh) }
     ensures { block.new ≡ residuals block.old 2 lh }
 {
-    let n = block.len();
-    let mut x = [0i32; 128];
-    let mut columns = [0i16; 128];
-    four_wide(block, &mut x[..n], &mut columns[..n], lh);
+    if block.len() <= 32 {
+        wide_in_rooms::<32>(block, lh);
+    } else {
+        wide_in_rooms::<128>(block, lh);
+    }
 }
 
-// Any block, in rooms that are small where it is small.
+// Any block in rooms of N places.
+fn any_in_rooms<const N: usize>(block: &mut [i16], lw: usize, lh: usize)
+    requires le_lw { (1 ≤ lw) × (lw ≤ most_log2) × (1 ≤ lh) × (lh ≤ most_log2) × (N ≤ 1024) }
+    requires block_len { (length block.old ≡ 2 ^ lw * 2 ^ lh) × (length block.old ≤ N) }
+    ensures { block.new ≡ residuals block.old lw lh }
+{
+    let n = block.len();
+    let mut x = [0i32; N];
+    let mut y = [0i32; N];
+    let mut lower = [0i16; N];
+    both_stages(block, &mut x[..n], &mut y[..n], &mut lower[..n], lw, lh);
+}
+
+// The rooms are small where the block is small.
+#[tactic(auto, using(stages::proofs::Sizes::at_most_1024))]
 fn restore_any(block: &mut [i16], lw: usize, lh: usize)
     requires le_lw { (1 ≤ lw) × (lw ≤ most_log2) × (1 ≤ lh) × (lh ≤ most_log2) }
     requires block_len { length block.old ≡ 2 ^ lw * 2 ^ lh }
     ensures { block.new ≡ residuals block.old lw lh }
 {
-    let n = block.len();
-    if n <= 16 {
-        let mut x = [0i32; 16];
-        let mut y = [0i32; 16];
-        let mut lower = [0i16; 16];
-        both_stages(block, &mut x[..n], &mut y[..n], &mut lower[..n], lw, lh);
-        return;
+    match block.len() {
+        0..=16 => any_in_rooms::<16>(block, lw, lh),
+        17..=64 => any_in_rooms::<64>(block, lw, lh),
+        65..=256 => any_in_rooms::<256>(block, lw, lh),
+        _ => any_in_rooms::<1024>(block, lw, lh),
     }
-    if n <= 64 {
-        let mut x = [0i32; 64];
-        let mut y = [0i32; 64];
-        let mut lower = [0i16; 64];
-        both_stages(block, &mut x[..n], &mut y[..n], &mut lower[..n], lw, lh);
-        return;
-    }
-    if n <= 256 {
-        let mut x = [0i32; 256];
-        let mut y = [0i32; 256];
-        let mut lower = [0i16; 256];
-        both_stages(block, &mut x[..n], &mut y[..n], &mut lower[..n], lw, lh);
-        return;
-    }
-    let mut x = [0i32; 1024];
-    let mut y = [0i32; 1024];
-    let mut lower = [0i16; 1024];
-    both_stages(block, &mut x[..n], &mut y[..n], &mut lower[..n], lw, lh);
 }
 
 // The residuals of the block in place of its coefficients.
@@ -178,17 +194,10 @@ pub fn restore(block: &mut [i16], lw: usize, lh: usize)
     requires block_len { length block.old ≡ 2 ^ lw * 2 ^ lh }
     ensures { block.new ≡ residuals block.old lw lh }
 {
-    if lw + lh == 2 {
-        restore_two(block);
-        return;
+    match (lw, lh) {
+        (1, 1) => restore_two(block),
+        (_, 2) => restore_high(block, lw),
+        (2, _) => restore_wide(block, lh),
+        _ => restore_any(block, lw, lh),
     }
-    if lh == 2 {
-        restore_high(block, lw);
-        return;
-    }
-    if lw == 2 {
-        restore_wide(block, lh);
-        return;
-    }
-    restore_any(block, lw, lh);
 }

@@ -14,7 +14,10 @@ use rescale::rescale;
 
 pub mod block;
 
+const MOST_QP: u32 = 63;
+
 // The levels of a square block at the front of the buffer, by rows, become its coefficients.
+#[tactic(auto, unfolding(decoding::specs::Call::scale_verdict, decoding::specs::Call::scale_buffer))]
 pub fn scale_back(block: &mut [i16], log2_side: usize, qp: u32) -> Result<(), Refusal>
     ensures answer { verdict_outcome result ≡ scale_verdict (levels_lent block.old log2_side qp) }
     ensures buffer { block.new ≡ scale_buffer (levels_lent block.old log2_side qp) }
@@ -22,7 +25,7 @@ pub fn scale_back(block: &mut [i16], log2_side: usize, qp: u32) -> Result<(), Re
     if no_side(log2_side) {
         return Err(Refusal::Side);
     }
-    if 63 < qp {
+    if MOST_QP < qp {
         return Err(Refusal::Qp);
     }
     let a = side(log2_side);
@@ -35,16 +38,14 @@ pub fn scale_back(block: &mut [i16], log2_side: usize, qp: u32) -> Result<(), Re
 }
 
 // The coefficients of a block at the front of the buffer, by rows, become its residuals.
+#[tactic(auto, unfolding(decoding::specs::Call::inverse_verdict, decoding::specs::Call::inverse_buffer))]
 pub fn inverse(block: &mut [i16], log2_w: usize, log2_h: usize) -> Result<(), Refusal>
     ensures answer { verdict_outcome result
         ≡ inverse_verdict (coefficients_lent block.old log2_w log2_h) }
     ensures buffer { block.new
         ≡ inverse_buffer (coefficients_lent block.old log2_w log2_h) }
 {
-    if no_side(log2_w) {
-        return Err(Refusal::Side);
-    }
-    if no_side(log2_h) {
+    if no_side(log2_w) || no_side(log2_h) {
         return Err(Refusal::Side);
     }
     let n = side(log2_w) * side(log2_h);

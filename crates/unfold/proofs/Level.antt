@@ -1,7 +1,6 @@
 -- One level of the inverse's butterfly, as a law over the half side 2^l and over any family of matrices that is
 -- symmetric there: a value is what the even coefficients give plus what the odd ones give, and its mirror image the same
 -- with a minus. It is the forward level read the other way: the same symmetry, with rows for columns.
--- Assumes nothing.
 use mathlib.Core.Path.{◌≡◌, sym, ◌∙◌, ap, refl}
 use Prim.Native.Nat.{ℕ, ◌+◌, ◌-◌, ◌*◌, ◌^◌, ◌<◌, ◌≤◌}
 use native.Mathlib.Nat.{mul-le-mul_right}

@@ -1,6 +1,5 @@
 -- The level of side 2^(l+1) of T, as the line functions go through it: what `odd_half` asks of what `part` left, what
 -- `spread` asks, and what the row then holds. Each line function is these laws at its own l.
--- Assumes nothing.
 use mathlib.Core.Path.{◌≡◌, refl, sym, ◌∙◌, ap, subst}
 use mathlib.Core.List.{List}
 use mathlib.Core.Logic.{⊎_elim}

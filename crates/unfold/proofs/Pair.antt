@@ -1,6 +1,5 @@
 -- Two coefficients back to values, 64·(p + q) and 64·(p - q): what fits, and that the two are the values. T_2 is its own
 -- transpose, so that the values are those of the forward pair.
--- Assumes nothing.
 use mathlib.Core.Path.{◌≡◌, refl, ◌∙◌, ap}
 use mathlib.Core.List.{List}
 use Prim.Native.Nat.{ℕ, zero, suc, ◌+◌, ◌<◌, ◌≤◌}

@@ -1,6 +1,5 @@
 -- One step of a sum of products of 16-bit numbers, a + t·v in 32 bits: where the magnitudes together stay below 2^31, the
 -- product and the sum fit.
--- Assumes nothing.
 use mathlib.Core.Path.{◌≡◌}
 use Prim.Native.Nat.{◌+◌, ◌*◌, ◌^◌, ◌<◌}
 use native.Mathlib.Omega.{arith}

@@ -1,7 +1,6 @@
 -- Lines of side 2h by halves: the grid whose lower rows hold what the even coefficients give and whose upper rows, from
 -- the last up, what the odd ones give, once it is unfolded, holds the values of every line. The two parts of the grid
 -- are lent one after the other; what the whole then is comes first.
--- Assumes nothing.
 use mathlib.Core.Path.{◌≡◌, sym, ◌∙◌, ap, subst}
 use mathlib.Core.Logic.{⊎_elim}
 use mathlib.Core.List.{List, ◌++◌}

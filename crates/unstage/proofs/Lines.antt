@@ -1,6 +1,5 @@
 -- Lines that go down their columns one by one: none at first, one more a turn, all at the end; and when all stand, the
 -- whole grid is as small as they are.
--- Assumes nothing.
 use mathlib.Core.Path.{◌≡◌, sym, ◌∙◌, ap, subst}
 use mathlib.Core.List.{List}
 use Prim.Native.Nat.{ℕ, zero, suc, ◌+◌, ◌*◌, ◌/◌, ◌%◌, ◌<◌, ◌≤◌}

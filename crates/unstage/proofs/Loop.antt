@@ -1,6 +1,5 @@
 -- The loop over the lines of a list, as a law over the side 2^l: what a turn asks of its line, and that with it one line
 -- more stands in its column. Each loop over lines is these laws at its own l.
--- Assumes nothing.
 use mathlib.Core.Path.{◌≡◌, refl, sym, ◌∙◌, ap, subst}
 use mathlib.Core.List.{List}
 use Prim.Native.Nat.{ℕ, ◌+◌, ◌*◌, ◌^◌, ◌<◌, ◌≤◌}

@@ -1,5 +1,4 @@
 -- What the odd coefficients of a line give, by a row of the table of odd rows, as the part of it that is handed on.
--- Assumes nothing.
 use mathlib.Core.Path.{◌≡◌, sym, ◌∙◌, ap, subst}
 use mathlib.Core.List.{List}
 use Prim.Native.Nat.{ℕ, ◌+◌, ◌*◌, ◌<◌, ◌≤◌}

@@ -1,6 +1,5 @@
 -- Two rows of a grid that become their sum and their difference, place by place; and all rows of a grid, two by two
 -- from the first and the last to the middle.
--- Assumes nothing.
 use mathlib.Core.Path.{◌≡◌, refl, sym, ◌∙◌, ap}
 use mathlib.Core.List.{List}
 use Prim.Native.Nat.{ℕ, suc, ◌+◌, ◌-◌, ◌*◌, ◌<◌, ◌≤◌}
