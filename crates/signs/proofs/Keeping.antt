@@ -1,5 +1,5 @@
 -- Magnitudes whose m is 0 need not be kept: such a place takes 0 whatever stands there, so that what is kept stands for
--- the block, and leaves no more of D. Assumes nothing.
+-- the block, and leaves no more of D.
 use mathlib.Core.Path.{◌≡◌, refl, sym, ap, subst, ◌∙◌}
 use mathlib.Core.Logic.{inl, inr}
 use mathlib.Core.Bool.{Bool, true, false}
@@ -24,9 +24,9 @@ use Rattle.price.specs.Price.{uncoded}
 use Rattle.price.proofs.Lighter.{Stands, Lighter}
 use Rattle.scaling.specs.declared.scale.Scale.{Scale}
 use Rattle.weights.specs.declared.prices.Prices.{Prices}
-use Rattle.scaling.specs.Inner.Scale.{Sound}
 use Rattle.weights.specs.Inner.Prices.{rule_by}
-use Rattle.weights.specs.Inner.Places.{kept_places, Scanned}
+use Rattle.scan.specs.Scanned.{Scanned}
+use Rattle.weights.specs.Inner.Places.{kept_places}
 use Rattle.signs.specs.Inner.Signs.{kept_of}
 use Rattle.scaling.proofs.Scaling.{nearest_of_0}
 use Rattle.weights.proofs.Places.{nothing_uncoded}
@@ -38,15 +38,15 @@ kept_yes g z a v e h q =
 pub kept_no : (g : Scale) (z : ℤ) (a v : ℕ) → a ≡ nat_abs z → a < g.least → v ≡ 0 → v ≡ kept_of g z
 kept_no g z a v e h q = let t = lt-leb g.least (nat_abs z) (subst (λ (k : ℕ). k < g.least) e h) in rw t q
 
-module _ (g : Scale) (s : Sound g) where
+module _ (g : Scale) where
   -- from the least magnitude on m is above 0, and not before
   pub kept_some : (a : ℕ) → g.least ≤ a → 1 ≤ nearest g.shift (a * g.q)
   unfolding nearest
   kept_some a h =
-      let x : g.half + g.q - 1 < (g.half + g.q - 1) / g.q * g.q + g.q = lt-div-mul-add s.some_q in
+      let x : g.half + g.q - 1 < (g.half + g.q - 1) / g.q * g.q + g.q = lt-div-mul-add g.sound.some_q in
       let y : g.least * g.q ≤ a * g.q = mul-le-mul_right g.q h in
       (le-div_iff_mul-le (pow_pos g.shift)).1
-      (omega (arith, s.half, s.unit, s.twice, ap (λ (k : ℕ). k * g.q) s.least))
+      (omega (arith, g.sound.half, g.sound.unit, g.sound.twice, ap (λ (k : ℕ). k * g.q) g.sound.least))
 
   dropped : (a : ℕ) → a < g.least → nearest g.shift (a * g.q) ≡ 0
   unfolding nearest
@@ -55,13 +55,13 @@ module _ (g : Scale) (s : Sound g) where
       let y : suc a * g.q ≤ g.least * g.q = mul-le-mul_right g.q h in
       div-eq_of_lt (omega (
         arith,
-        s.half,
-        s.unit,
-        s.twice,
+        g.sound.half,
+        g.sound.unit,
+        g.sound.twice,
         suc-mul a g.q,
-        ap (λ (k : ℕ). k * g.q) s.least,
+        ap (λ (k : ℕ). k * g.q) g.sound.least,
         pow_pos g.shift,
-        s.some_q,
+        g.sound.some_q,
       ))
 
   -- a coefficient is kept as it is, or its m is 0 and nothing is kept
@@ -83,7 +83,7 @@ module _ (g : Scale) (s : Sound g) where
     top_is L = refl
 
     none_top : (rule_by p g).top 0 ≡ 0
-    none_top = top_is 0 ∙ nearest_of_0 g.shift (omega (arith, s.low))
+    none_top = top_is 0 ∙ nearest_of_0 g.shift (omega (arith, g.sound.low))
 
     abbrev kept : ℤ → ℕ
     kept z = kept_of g z * g.q

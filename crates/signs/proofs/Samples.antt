@@ -1,4 +1,4 @@
--- A magnitude with its coefficient's sign put back, as the machine holds it in 16 bits. Assumes nothing.
+-- A magnitude with its coefficient's sign put back, as the machine holds it in 16 bits.
 use mathlib.Core.Path.{◌≡◌, refl, sym, ◌∙◌}
 use mathlib.Core.Bool.{true, false, true≢false}
 use Prim.Native.Nat.{ℕ, zero, suc, ◌≤◌}

@@ -1,5 +1,5 @@
 -- Signs put back to magnitudes, by rows: the loop, and that the block it leaves is the definition's, whose levels are
--- laid along the scan. The count does not depend on the order. Assumes nothing.
+-- laid along the scan. The count does not depend on the order.
 use mathlib.Core.Path.{◌≡◌, refl, sym, ap, subst, ◌∙◌}
 use mathlib.Core.Logic.{⊎_elim}
 use mathlib.Core.List.{List}
@@ -19,7 +19,8 @@ use Rattle.scan.specs.Order.{laid, in_order}
 use Rattle.scan.proofs.Laid.{laid_length, laid_on_scan}
 use Rattle.price.specs.Level.{signed}
 use Rattle.coding.specs.Block.{signs}
-use Rattle.weights.specs.Inner.Places.{Scanned, Standing}
+use Rattle.scan.specs.Scanned.{Scanned}
+use Rattle.weights.specs.Inner.Places.{Standing}
 use Rattle.coding.proofs.Signed.{signs_length, signs_at}
 
 -- ---- the levels by rows

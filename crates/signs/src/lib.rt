@@ -8,26 +8,23 @@ ghost use Rattle.price.specs.Price.{nonzeros};
 ghost use Rattle.coding.specs.Block.{signs};
 ghost use Rattle.signs.specs.Inner.Signs.{KeptAs};
 
-use coefficients::skip::absolute;
 use scaling::scale::Scale;
 
 // |c| where its m is above 0, else 0; how many are not 0.
-pub fn keep(block: &[i16], kept: &mut [u16], g: Scale) -> usize
+pub fn keep(block: &[i16], kept: &mut [u16], scale: Scale) -> usize
     requires { (length kept.old ≡ length block.now) × (length block.now ≤ 4096) }
-    ensures { KeptAs g block.now kept.new result }
+    ensures { KeptAs scale block.now kept.new result }
 {
     let mut count: u16 = 0;
-    let mut i = 0;
-    while i < block.len() {
-        let a = absolute(block[i]) as u16;
-        let v = if g.least <= a { a } else { 0 };
+    for (i, c) in block.iter().enumerate() {
+        let a = c.unsigned_abs();
+        let v = if scale.least <= a { a } else { 0 };
         kept[i] = v;
         if v != 0 {
             count += 1;
         }
-        i += 1;
     }
-    count as usize
+    usize::from(count)
 }
 
 // Each magnitude with its coefficient's sign, in the coefficient's place; how many are not 0.
@@ -38,14 +35,12 @@ pub fn put_signs(block: &mut [i16], levels: &[u16]) -> u32
         × (result ≡ nonzeros levels.now) }
 {
     let mut count: u16 = 0;
-    let mut i = 0;
-    while i < levels.len() {
-        let a = levels[i] as i16;
-        block[i] = if block[i] < 0 { 0 - a } else { a };
+    for (i, level) in levels.iter().enumerate() {
+        let a = *level as i16;
+        block[i] = if block[i] < 0 { -a } else { a };
         if a != 0 {
             count += 1;
         }
-        i += 1;
     }
-    count as u32
+    u32::from(count)
 }

@@ -30,21 +30,20 @@ loop-i-preserved c =
       | then-block-i-lt0 w ↦ w.block-is ∙ put_minus z a f h w.if-block-i-lt0.true
       | else-block-i-lt0 w ↦ w.block-is ∙ put_plus z a f h w.if-block-i-lt0.false
     ] in
-    let value = put ∙ ap (λ (y : ℤ). signed y a) (l.invariant.1.left l.i (omega arith)) in
+    let value = put ∙ ap (λ (y : ℤ). signed y a) (l.invariant.0.left l.i (omega arith)) in
     let n : c.if-a-ne0.count ≡ l.count + ones a = elim c.if-a-ne0.branch [
       | then-a-ne0 w ↦ omega (arith, w.count-is, one_more a w.if-a-ne0.true)
       | else-a-ne0 w ↦ omega (arith, w.count-is, none_more a w.if-a-ne0.false)
     ] in (
-      omega arith,
-      signing_more _ _ l.block l.i _ (omega (arith, c.requires.0)) value l.invariant.1,
-      rw n (over_next nats ones levels l.i 0 l.count c.loop-i-test.true ∙ l.invariant.2),
-      omega (arith, n, ones_few a, l.invariant.3),
+      signing_more _ _ l.block l.i _ (omega (arith, c.requires.0)) value l.invariant.0,
+      rw n (over_next nats ones levels l.i 0 l.count c.loop-i-test.true ∙ l.invariant.1),
+      omega (arith, n, ones_few a, l.invariant.2),
     )
 
 pub returns : goal.returns
 returns c =
     let levels = c.args.levels.now in
     let l = c.loop-i in (
-      signing_all c.args.block.now levels l.block l.i c.requires.0 c.loop-i-test.false l.invariant.1,
-      sym (over_end nats ones levels l.i l.count c.loop-i-test.false) ∙ l.invariant.2 ∙ sym (nonzeros_over levels),
+      signing_all c.args.block.now levels l.block l.i c.requires.0 c.loop-i-test.false l.invariant.0,
+      c.from.ensures ∙ sym (over_end nats ones levels l.i l.count c.loop-i-test.false) ∙ l.invariant.1 ∙ sym (nonzeros_over levels),
     )
