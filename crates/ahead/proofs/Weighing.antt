@@ -1,13 +1,10 @@
 -- One place weighed as code does it: ending or going on behind a nonzero level, and then the one offer against 0, each
 -- at its price.
--- Assumes nothing.
 use mathlib.Core.Path.{◌≡◌, ap}
-use mathlib.Core.Logic.{◌⊎◌, inl, inr}
 use mathlib.Core.Bool.{Bool, true, false, cond}
-use Prim.Native.Nat.{ℕ, ◌+◌, ◌-◌, ◌≤◌, ◌<◌}
+use Prim.Native.Nat.{ℕ, ◌+◌, ◌-◌, ◌≤◌}
 use native.Mathlib.Omega.{arith}
 use lib.Dec.{ltb, eqb}
-use borrow.Author.Tests.{lt-ltb, le-ltb}
 use Rattle.price.specs.Level.{nearest, distortion}
 use Rattle.price.specs.Walk.{cheaper}
 use Rattle.scaling.specs.declared.scale.Scale.{Scale}
@@ -32,52 +29,32 @@ offer_below p g L =
     one_of (eqb m 1) m (cond (ltb (f m) (f (m - 1))) m (m - 1)) m (omega arith)
     (one_of (ltb (f m) (f (m - 1))) m (m - 1) m (omega arith) (omega arith))
 
--- ---- behind a nonzero level
-module _ (p : Prices) (t : Ahead) (behind on : ℕ) where
-  abbrev pub Behind : Type 0
-  Behind =
-      ((t.level + p.more < t.rest + p.last) × (behind ≡ t.level + p.more) × (on ≡ 1))
-      ⊎ ((t.rest + p.last ≤ t.level + p.more) × (behind ≡ t.rest + p.last) × (on ≡ 0))
+pub taken_small : (p : Prices) (g : Scale) (L : ℕ) → Fine p g L → (offer : Offer) → Offered true p g L offer → (x y : ℕ)
+    (r : Choice) → ChosenOf x y offer.level r → r.level ≤ 32767
+taken_small p g L f offer o x y r c =
+    let k : offer.level ≤ 32767 = omega (arith, o.is, offer_below p g L, f.level) in
+    omega (arith, c.level, one_of (ltb y x) offer.level 0 32767 k (omega arith))
 
-  pub behind_small : Behind → behind ≤ t.rest + p.last
-  behind_small (inl h) = omega arith
-  behind_small (inr h) = omega arith
+-- ---- the place
+module _ (p : Prices) (t : Ahead) (g : Scale) (L : ℕ) (offer : Offer) (o : Offered true p g L offer) (d behind : ℕ)
+    (hd : d ≡ distortion g.shift g.error L 0) (b : behind ≡ behind_by p t) where
+  weighed_as : (zr hr : ℕ) (r : Choice) → ChosenOf (t.zero + d + zr) (behind + offer.price + hr) offer.level r
+      → ChosenOf (zero_by g t L + zr) (level_by p g t L + hr) (offered true p g L) r
+  weighed_as zr hr r c = rw (← hd, ← b, ← o.is, ← o.price) c
 
-  behind_is : Behind → (behind ≡ behind_by p t) × (on ≡ cond (ltb (t.level + p.more) (t.rest + p.last)) 1 0)
-  behind_is (inl h) = let k = lt-ltb _ _ h.0 in (rw k h.1, rw k h.2)
-  behind_is (inr h) = let k = le-ltb _ _ h.0 in (rw k h.1, rw k h.2)
-
-  -- ---- the place
-  module _ (g : Scale) (L : ℕ) (f : Fine p g L) (offer : Offer) (o : Offered true p g L offer) (d : ℕ)
-      (hd : d ≡ distortion g.shift g.error L 0) (b : Behind) where
-    taken_small : (x y : ℕ) (r : Choice) → ChosenOf x y offer.level r → r.level ≤ 32767
-    taken_small x y r c =
-        let k : offer.level ≤ 32767 = omega (arith, o.is, offer_below p g L, f.level) in
-        omega (arith, c.level, one_of (ltb y x) offer.level 0 32767 k (omega arith))
-
-    on_small : (on ≡ cond (ltb (t.level + p.more) (t.rest + p.last)) 1 0) → on ≤ 1
-    on_small e = omega (arith, one_of (ltb (t.level + p.more) (t.rest + p.last)) 1 0 1 (omega arith) (omega arith))
-
-    weighed_as : (zr hr : ℕ) (r : Choice) → ChosenOf (t.zero + d + zr) (behind + offer.price + hr) offer.level r
-        → ChosenOf (zero_by g t L + zr) (level_by p g t L + hr) (offered true p g L) r
-    weighed_as zr hr r c = rw (← hd, ← (behind_is b).0, ← o.is, ← o.price) c
-
-    pub weighed : (z n : Choice) → ChosenOf (t.zero + d + p.zeros) (behind + offer.price + p.heads) offer.level z
-        → ChosenOf (t.zero + d + p.zero) (behind + offer.price + p.head) offer.level n
-        → WeighedBy p g t L
-        (record {
-          ahead = record { zero = z.price; level = n.price; rest = t.rest + d };
-          zero = z.level;
-          level =
-              n.level;
-          on = on;
-        })
-    weighed z n cz cn =
-        record {
-          zero = weighed_as p.zeros p.heads z cz;
-          level = weighed_as p.zero p.head n cn;
-          rest = ap (λ (x : ℕ). t.rest + x) hd;
-          on = (behind_is b).1;
-          offer = rw (← o.is, ← o.price) (o.some, o.small);
-          small = (taken_small _ _ z cz, taken_small _ _ n cn, on_small (behind_is b).1);
-        }
+  pub weighed : (z n : Choice) → ChosenOf (t.zero + d + p.zeros) (behind + offer.price + p.heads) offer.level z
+      → ChosenOf (t.zero + d + p.zero) (behind + offer.price + p.head) offer.level n
+      → (goes_on : Bool) → goes_on ≡ ltb (t.level + p.more) (t.rest + p.last)
+      → WeighedBy p g t L
+      (record {
+        ahead = record { zero = z.price; level = n.price; rest = t.rest + d };
+        taken = record { after_zero = z.level; after_level = n.level; goes_on = goes_on };
+      })
+  weighed z n cz cn goes_on e =
+      record {
+        zero = weighed_as p.zeros p.heads z cz;
+        level = weighed_as p.zero p.head n cn;
+        rest = ap (λ (x : ℕ). t.rest + x) hd;
+        on = e;
+        offer = rw (← o.is, ← o.price) (o.some, o.small);
+      }

@@ -4,8 +4,7 @@ use Rattle.std.specs.Prelude.{◌≡◌, true, cond, ℕ, ◌+◌, ◌^◌, ◌�
 use Rattle.price.specs.Level.{nearest, distortion}
 use Rattle.scaling.specs.declared.scale.Scale.{Scale}
 use Rattle.weights.specs.declared.prices.Prices.{Prices}
-use Rattle.scaling.specs.Inner.Scale.{Sound}
-use Rattle.weights.specs.Inner.Prices.{Modest, Fine}
+use Rattle.weights.specs.Inner.Prices.{Fine}
 use Rattle.weights.specs.Inner.Offers.{bare, offered}
 use Rattle.ahead.specs.declared.Ahead.{Ahead}
 use Rattle.ahead.specs.declared.Choice.{Choice}
@@ -16,17 +15,10 @@ pub record ChosenOf (x y a : ℕ) (r : Choice) : Type 0 where
   pub level : r.level ≡ cond (ltb y x) a 0
   pub price : r.price ≡ cond (ltb y x) y x
 
--- there is room for one place more
-pub record Passable (p : Prices) (t : Ahead) : Type 0 where
-  pub modest : Modest p
-  pub zero : t.zero ≤ 2 ^ 63 + 2 ^ 61
-
 abbrev pub passed_by : Prices → Ahead → Ahead
 passed_by p t = record { zero = t.zero + p.zeros; level = t.zero + p.zero; rest = t.rest }
 
 pub record Ready (p : Prices) (g : Scale) (t : Ahead) (L : ℕ) : Type 0 where
-  pub modest : Modest p
-  pub sound : Sound g
   pub fine : Fine p g L
   pub some : 1 ≤ nearest g.shift L
   pub zero : t.zero ≤ 2 ^ 63 + 2 ^ 61
@@ -46,10 +38,9 @@ level_by p g t L = behind_by p t + bare p g L (offered true p g L)
 
 pub record WeighedBy (p : Prices) (g : Scale) (t : Ahead) (L : ℕ) (r : Weighed) : Type 0 where
   pub zero : ChosenOf (zero_by g t L + p.zeros) (level_by p g t L + p.heads) (offered true p g L)
-      (record { level = r.zero; price = r.ahead.zero })
+      (record { level = r.taken.after_zero; price = r.ahead.zero })
   pub level : ChosenOf (zero_by g t L + p.zero) (level_by p g t L + p.head) (offered true p g L)
-      (record { level = r.level; price = r.ahead.level })
+      (record { level = r.taken.after_level; price = r.ahead.level })
   pub rest : r.ahead.rest ≡ t.rest + distortion g.shift g.error L 0
-  pub on : r.on ≡ cond (ltb (t.level + p.more) (t.rest + p.last)) 1 0
+  pub on : r.taken.goes_on ≡ ltb (t.level + p.more) (t.rest + p.last)
   pub offer : (1 ≤ offered true p g L) × (bare p g L (offered true p g L) ≤ 2 ^ 61 + 2 ^ 59)
-  pub small : (r.zero ≤ 32767) × (r.level ≤ 32767) × (r.on ≤ 1)
