@@ -1,9 +1,0 @@
--- `page::put_level` stays inside its six bytes.
-use Prim.Native.Nat.{◌≤◌, ◌-◌}
-use Rattle.page.proofs.put_level.Given as goal
-
-abbrev pub invariant-loop-k : goal.invariant-loop-k
-invariant-loop-k l = (l.k ≤ l.n)
-
-abbrev pub decreases-loop-k : goal.decreases-loop-k
-decreases-loop-k l = l.n - l.k
