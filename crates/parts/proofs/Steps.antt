@@ -1,5 +1,5 @@
--- A number of the first stage in its two parts, and their sums joined, as the machine works them out: every step fits,
--- and the results are the definitions'. What callers need of the parts: how large they are, and that they make up the
+-- A number of the first stage in its two parts, and their sums joined, as the machine works them out: the low part and
+-- the joined sum are the definitions'. What callers need of the parts: how large they are, and that they make up the
 -- number.
 use mathlib.Core.Path.{◌≡◌, sym, ◌∙◌, ap}
 use Prim.Native.Nat.{◌≤◌}
@@ -46,23 +46,8 @@ module _ (z : ℤ) (h : nat_abs z ≤ 61079552) where
   rest : SFits w32 (low_of z)
   rest = fits_within (low_of z) 4095 (low_bound z) (lit< tt)
 
-  high_narrow : SFits w16 (high_of z)
-  high_narrow = fits_within (high_of z) 14912 high_bound (lit< tt)
-
   low_narrow : SFits w16 (low_of z)
   low_narrow = fits_within (low_of z) 4095 (low_bound z) (lit< tt)
-
-  pub high_fits : SFits w16 (held (shr_z (held z) 4096))
-  high_fits = let a = value in let b = quotient in simp to_z-of_z high_narrow
-
-  pub high_is : to_z w16 (of_z w16 (held (shr_z (held z) 4096))) ≡ high_of z
-  high_is = let a = value in let b = quotient in let d = high_narrow in simp to_z-of_z
-
-  pub product_fits : SFits w32 (pos 4096 *ℤ held (shr_z (held z) 4096))
-  product_fits = let a = value in let b = quotient in simp to_z-of_z product
-
-  pub rest_fits : SFits w32 (held z -ℤ held (pos 4096 *ℤ held (shr_z (held z) 4096)))
-  rest_fits = let a = value in let b = quotient in let d = product in simp to_z-of_z rest
 
   pub low_fits : SFits w16 (held (held z -ℤ held (pos 4096 *ℤ held (shr_z (held z) 4096))))
   low_fits = let a = value in let b = quotient in let d = product in let e = rest in simp to_z-of_z low_narrow
@@ -106,17 +91,6 @@ module _ (p q : ℤ) (hp : nat_abs p ≤ 27795968) (hq : nat_abs q ≤ 7633080) 
   shifted_held =
       fits_within (shr_z (p +ℤ shr_z (q +ℤ pos 65536) 4096) 32) 868683
       (shift_bound (p +ℤ shr_z (q +ℤ pos 65536) 4096) 32 868683 (lit< tt) (omega (arith, joined))) (lit< tt)
-
-  pub lifted_fits : SFits w32 (held q +ℤ pos 65536)
-  lifted_fits = let a = low_sum in simp to_z-of_z lifted_held
-
-  pub joined_fits : SFits w32 (held p +ℤ held (shr_z (held (held q +ℤ pos 65536)) 4096))
-  joined_fits =
-      let a = high_sum in
-      let b = low_sum in
-      let d = lifted_held in
-      let e = carried_held in
-      simp to_z-of_z joined_held
 
   pub joined_made : held (shr_z (held (held p +ℤ held (shr_z (held (held q +ℤ pos 65536)) 4096))) 32)
       ≡ rounded (whole p q) 17

@@ -15,12 +15,8 @@ pub fn high(x: &[i32], hi: &mut [i16])
     ensures { (i : ℕ) → i < length x.now
         → at hi.new i ≡ high_of (at x.now i) }
 {
-    let n = x.len();
-    let mut i: usize = 0;
-    while i < n {
-        let z = x[i];
-        hi[i] = (z >> 12) as i16;
-        i += 1;
+    for i in 0..x.len() {
+        hi[i] = (x[i] >> 12) as i16;
     }
 }
 
@@ -30,12 +26,8 @@ pub fn low(x: &[i32], lo: &mut [i16])
     ensures { (i : ℕ) → i < length x.now
         → at lo.new i ≡ low_of (at x.now i) }
 {
-    let n = x.len();
-    let mut i: usize = 0;
-    while i < n {
-        let z = x[i];
-        lo[i] = (z - 4096 * (z >> 12)) as i16;
-        i += 1;
+    for i in 0..x.len() {
+        lo[i] = (x[i] - 4096 * (x[i] >> 12)) as i16;
     }
 }
 
@@ -43,13 +35,7 @@ pub fn low(x: &[i32], lo: &mut [i16])
 pub fn clip(z: i32) -> i16
     ensures { result ≡ clipped z }
 {
-    if z < -32768 {
-        return -32768;
-    }
-    if 32767 < z {
-        return 32767;
-    }
-    z as i16
+    z.clamp(-32768, 32767) as i16
 }
 
 // The residuals by the sums p of the high parts and q of the low ones.
@@ -60,13 +46,7 @@ pub fn join(p: &[i32], q: &[i32], block: &mut [i16])
     ensures { (i : ℕ) → i < length p.now → at block.new i
         ≡ clipped (rounded (whole (at p.now i) (at q.now i)) 17) }
 {
-    let n = p.len();
-    let mut i: usize = 0;
-    while i < n {
-        let a = p[i];
-        let b = q[i];
-        let z = (a + ((b + 65536) >> 12)) >> 5;
-        block[i] = clip(z);
-        i += 1;
+    for i in 0..p.len() {
+        block[i] = clip((p[i] + ((q[i] + 65536) >> 12)) >> 5);
     }
 }

@@ -1,16 +1,9 @@
 -- `parts::high` meets its contract: the first i high parts are stored.
 use mathlib.Core.Path.{◌≡◌}
-use Prim.Native.Nat.{◌-◌, ◌≤◌}
-use lib.ListN.{length}
-use lib.IntN.{pos}
+use Prim.Native.Nat.{ℕ, ◌<◌}
 use Rattle.integers.specs.Sum.{at}
-use Rattle.integers.proofs.Fill.{Filled}
 use Rattle.parts.specs.Inner.Parts.{high_of}
 use Rattle.parts.proofs.high.Given as goal
 
 abbrev pub invariant-loop-i : goal.invariant-loop-i
-invariant-loop-i l =
-    (l.i ≤ length l.x) × (length l.hi ≡ length l.initial.hi) × Filled (pos 0) l.hi (λ j. high_of (at l.x j)) l.i
-
-abbrev pub decreases-loop-i : goal.decreases-loop-i
-decreases-loop-i l = length l.x - l.i
+invariant-loop-i l = (j : ℕ) → j < l.i → at l.hi j ≡ high_of (at l.x j)
