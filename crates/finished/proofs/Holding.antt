@@ -1,8 +1,8 @@
 -- A number held at 2^62, as sums are made of it: what is held in between does not show in the sum, and below 2^62
--- nothing is held. Assumes nothing.
+-- nothing is held.
 use mathlib.Core.Path.{◌≡◌, sym, ap, ◌∙◌}
 use mathlib.Core.Logic.{⊎_elim}
-use Prim.Native.Nat.{ℕ, ◌+◌, ◌^◌, ◌≤◌, ◌<◌}
+use Prim.Native.Nat.{ℕ, ◌+◌, ◌^◌, ◌≤◌, ◌<◌, min}
 use native.Mathlib.Omega.{arith}
 use borrow.Author.Tests.{lt-ltb, le-ltb}
 use Rattle.integers.proofs.Order.{below_or_not}
@@ -15,6 +15,12 @@ held_below x h = rw (lt-ltb x (2 ^ 62) h)
 pub held_from : (x : ℕ) → 2 ^ 62 ≤ x → held x ≡ 2 ^ 62
 unfolding held
 held_from x h = rw (le-ltb x (2 ^ 62) h)
+
+pub held_min : (x : ℕ) → min x (2 ^ 62) ≡ held x
+held_min x =
+    ⊎_elim (λ (l : x < 2 ^ 62). let e : min x (2 ^ 62) ≡ x = omega arith in e ∙ sym (held_below x l))
+    (λ (l : 2 ^ 62 ≤ x). let e : min x (2 ^ 62) ≡ 2 ^ 62 = omega arith in e ∙ sym (held_from x l))
+    (below_or_not x (2 ^ 62))
 
 pub held_again : (x : ℕ) → x ≤ 2 ^ 62 → held x ≡ x
 held_again x h =

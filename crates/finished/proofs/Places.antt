@@ -1,14 +1,14 @@
 -- What the loops add and count, one place at a time, by what is left behind it: the costs of levels, the size of a
--- block, and what a magnitude costs at its place. Assumes nothing.
+-- block, and what a magnitude costs at its place.
 use mathlib.Core.Path.{◌≡◌, refl, sym}
-use mathlib.Core.Logic.{inl, inr}
+use mathlib.Core.Logic.{◌⊎◌, inl, inr}
 use mathlib.Core.Bool.{Bool}
-use mathlib.Core.List.{List}
+use mathlib.Core.List.{List, [], ◌∷◌}
 use Prim.Native.Nat.{ℕ, zero, suc, ◌+◌, ◌*◌, ◌^◌, ◌≤◌, ◌<◌}
 use native.Mathlib.Numerals.{add-one}
 use native.Mathlib.Omega.{arith}
-use lib.ListN.{length, get_or, take, drop, length-take, drop_of_length-le}
-use lib.Seq.{drop-cons, get_or-take}
+use lib.ListN.{length, get_or, drop, drop_of_length-le}
+use lib.Seq.{drop-cons}
 use Rattle.price.specs.Level.{distortion}
 use Rattle.price.specs.Rule.{Rule, Allowed, is_zero, cost}
 use Rattle.price.specs.Price.{costs, in_front, size}
@@ -39,26 +39,19 @@ module _ (p : Prices) (g : Scale) (z : Bool) (L : ℕ) where
   level_cost zero h = absurd (h refl)
   level_cost (suc a) h = cost_by p g z L a
 
--- the costs of the first n levels, from place i on
-pub costs_next : (r : Rule) (g : Scale) (z : Bool) (ls cs : List ℕ) (n i : ℕ) → i < n → n ≤ length ls
-    → length ls ≡ length cs
-    → (let a = get_or ls i 0 in
-    costs r z (drop i (take n ls)) (places_of g (drop i cs))
-    ≡ cost r z (get_or cs i 0 * g.q) a + costs r (is_zero a) (drop (i + 1) (take n ls)) (places_of g (drop (i + 1) cs)))
+-- ---- the costs
+pub costs_next : (r : Rule) (g : Scale) (z : Bool) (ls cs more rest : List ℕ) (a c : ℕ) → ls ≡ a ∷ more → cs ≡ c ∷ rest
+    → costs r z ls (places_of g cs) ≡ cost r z (c * g.q) a + costs r (is_zero a) more (places_of g rest)
 unfolding costs
-costs_next r g z ls cs n i h k e =
-    rw (
-      add-one,
-      drop-cons (take n ls) i 0 (simp length-take (omega arith)),
-      get_or-take n ls i 0 h,
-      drop-cons cs i 0 (omega arith),
-    )
+costs_next r g z ls cs more rest a c e f = rw (e, f)
 
-pub costs_done : (r : Rule) (g : Scale) (z : Bool) (ls cs : List ℕ) (n i : ℕ) → n ≤ i
-    → costs r z (drop i (take n ls)) (places_of g (drop i cs)) ≡ 0
+pub costs_done : (r : Rule) (g : Scale) (z : Bool) (ls cs : List ℕ) → (length ls ≡ 0) ⊎ (length cs ≡ 0)
+    → costs r z ls (places_of g cs) ≡ 0
 unfolding costs
-costs_done r g z ls cs n i h =
-    let l : length (take n ls) ≤ i = simp length-take (omega arith) in rw (drop_of_length-le (take n ls) l)
+costs_done r g z [] cs e = refl
+costs_done r g z (a ∷ ls) [] e = refl
+costs_done r g z (a ∷ ls) (c ∷ cs) (inl e) = absurd (omega arith)
+costs_done r g z (a ∷ ls) (c ∷ cs) (inr e) = absurd (omega arith)
 
 -- ---- the size
 -- of a block whose first i places have the size `end`, and what is behind them the size n

@@ -1,5 +1,5 @@
 -- The price put together from its parts, as code adds them: its definition by the size of the block, and each part
--- held. Assumes nothing.
+-- held.
 use mathlib.Core.Path.{◌≡◌, refl, sym, ap, ◌∙◌}
 use mathlib.Core.Bool.{false}
 use mathlib.Core.List.{List, [], ◌∷◌}

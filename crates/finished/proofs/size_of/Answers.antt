@@ -2,28 +2,26 @@
 use mathlib.Core.Path.{sym, ◌∙◌}
 use native.Mathlib.Omega.{arith}
 use Rattle.finished.proofs.Places.{end_size, size_zero, size_level}
+use Rattle.finished.proofs.size_of.Goals.{then-level-ne0, else-level-ne0}
 use Rattle.finished.proofs.size_of.Goals as goal
-use Rattle.finished.proofs.size_of.Goals.{then-levels-i-ne0, else-levels-i-ne0}
 
 pub loop-i-preserved : goal.loop-i-preserved
 loop-i-preserved c =
     let l = c.loop-i in
     let ls = c.args.levels.now in
     let h = c.loop-i-test.true in
-    elim c.if-levels-i-ne0.branch [
-      | then-levels-i-ne0 w ↦ (
-        omega arith,
+    elim c.if-level-ne0.branch [
+      | then-level-ne0 w ↦ (
         omega (arith, w.end-is),
-        size_level ls l.i l.end h _ w.end-is w.if-levels-i-ne0.true ∙ l.invariant.2,
+        size_level ls l.i l.end h _ w.end-is w.if-level-ne0.true ∙ l.invariant.1,
       )
-      | else-levels-i-ne0 w ↦ (
-        omega arith,
+      | else-level-ne0 w ↦ (
         omega (arith, w.end-is),
-        size_zero ls l.i l.end h _ w.end-is w.if-levels-i-ne0.false ∙ l.invariant.2,
+        size_zero ls l.i l.end h _ w.end-is w.if-level-ne0.false ∙ l.invariant.1,
       )
     ]
 
 pub returns : goal.returns
 returns c =
     let l = c.loop-i in
-    (sym (end_size c.args.levels.now l.i l.end c.loop-i-test.false) ∙ l.invariant.2, omega arith)
+    (sym (end_size c.args.levels.now l.i l.end c.loop-i-test.false) ∙ l.invariant.1, omega arith)

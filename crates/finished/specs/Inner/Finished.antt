@@ -6,9 +6,8 @@ use Rattle.price.specs.Level.{nearest, distortion}
 use Rattle.price.specs.Rule.{Allowed}
 use Rattle.price.specs.Price.{nonzeros}
 use Rattle.scaling.specs.declared.scale.Scale.{Scale}
-use Rattle.scaling.specs.Inner.Scale.{Sound}
 use Rattle.weights.specs.declared.prices.Prices.{Prices}
-use Rattle.weights.specs.Inner.Prices.{Modest, Fine}
+use Rattle.weights.specs.Inner.Prices.{Fine}
 
 -- a price held at 2^62: from there on it is only known to be too high
 unfoldable pub held : ℕ → ℕ
@@ -28,8 +27,6 @@ flags_to p ls n = p.coded + nonzeros (take (n - 1) ls) * p.more + p.last
 
 -- magnitudes that can be priced: each is 0, m or m - 1 at its place, and refusals 7 and 8 let the block pass
 pub record Priceable (p : Prices) (g : Scale) (levels cs : List ℕ) : Type 0 where
-  pub modest : Modest p
-  pub sound : Sound g
   pub long : length levels ≡ length cs
   pub few : length cs ≤ most_places
   pub fine : (k : ℕ) → Fine p g (get_or cs k 0 * g.q)
