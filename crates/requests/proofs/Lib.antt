@@ -1,5 +1,4 @@
 pub mod Asked
-mod Counts
 mod Examples
 mod Fields
 mod Lists

@@ -1,90 +1,46 @@
--- A search for the next space, byte by byte, and what it says of a line's words: the word at a cursor comes first, and
--- behind it come the words from behind its space on.
--- Assumes nothing.
-use mathlib.Core.Path.{◌≡◌, refl, sym, ap, ◌∙◌}
-use mathlib.Core.Bool.{Bool, true, false, cond}
-use mathlib.Core.List.{List, [], ◌∷◌}
-use Prim.Native.Nat.{ℕ, zero, suc, ◌+◌, ◌-◌, ◌≤◌, ◌<◌}
-use native.Mathlib.Numerals.{add-one}
-use native.Mathlib.Omega.{arith}
-use borrow.Author.Tests.{eq-eqb, ne_eqb, lt-ltb, le-ltb, ltb-true, ltb-false}
-use lib.Dec.{eqb, ltb}
-use lib.ListN.{length, take, drop, get_or, length-drop}
-use lib.Seq.{drop-cons, drop-drop}
-use Rattle.requests.specs.Words.{onto, words_of}
-use Rattle.requests.specs.Inner.Cursors.{until_space, end_from, words_from}
+-- The first word of a line and what stands behind it, by the place of the first space.
+use Rattle.std.proofs.Common.{◌≡◌, refl, sym, ap, ◌∙◌, Bool, true, false, cond, List, [], ◌∷◌, ℕ, zero, suc, ◌+◌, ◌<◌, ◌≤◌}
+use Rattle.std.proofs.Common.{Some, None, length, take, drop, get_or, eqb, ltb, arith, position, add-one, ◌-◌, length-drop}
+use lib.Seq.{take_all}
+use borrow.Author.Tests.{ltb-false}
+use Rattle.std.specs.List.{position_or_len}
+use Rattle.std.proofs.lemmas.List.Quantifiers.{position-Some}
+use Rattle.std.proofs.lemmas.List.Sums.{fails_before_first}
+use Rattle.requests.specs.Words.{words_of}
 
--- ---- the search
--- at a space the word ends
-pub at_space : (l : List ℕ) (i : ℕ) → i < length l → get_or l i 0 ≡ 32 → i ≡ end_from l i
-unfolding until_space
-at_space l i h e = rw (drop-cons l i 0 h, eq-eqb (get_or l i 0) 32 e) (omega arith)
+abbrev space : ℕ → Bool
+space b = eqb b 32
 
--- and behind the last byte
-none_left : (l : List ℕ) (i : ℕ) → length l ≤ i → until_space (drop i l) ≡ 0
-unfolding until_space
-none_left [] zero h = refl
-none_left [] (suc i) h = refl
-none_left (x ∷ l) zero h = omega arith
-none_left (x ∷ l) (suc i) h = none_left l i (omega arith)
+-- up to a space, and behind it
+split : (l : List ℕ) (i : ℕ) → i < length l → space (get_or l i 0) ≡ true
+    → ((k : ℕ) → k < i → space (get_or l k 0) ≡ false) → words_of l ≡ take i l ∷ words_of (drop (i + 1) l)
+unfolding words_of
+split [] i h e n = absurd (let no : ⊥ = omega arith in no)
+split (b ∷ l) zero h e n = rw e refl
+split (b ∷ l) (suc i) h e n =
+    rw (n 0 (omega arith), split l i (omega arith) e (λ k m. n (suc k) (omega arith)), add-one i, add-one (suc i)) refl
 
-pub at_end : (l : List ℕ) (i : ℕ) → length l ≤ i → i ≡ end_from l i
-at_end l i h = omega (arith, none_left l i h)
+-- a word alone
+alone : (l : List ℕ) → ((k : ℕ) → k < length l → space (get_or l k 0) ≡ false) → words_of l ≡ l ∷ []
+unfolding words_of
+alone [] n = refl
+alone (b ∷ l) n = rw (n 0 (omega arith), alone l (λ k m. n (suc k) (omega arith))) refl
 
--- any other byte belongs to the word
-pub on : (l : List ℕ) (i : ℕ) → i < length l → (get_or l i 0 ≡ 32 → ⊥) → end_from l (i + 1) ≡ end_from l i
-unfolding until_space
-on l i h e = rw (drop-cons l i 0 h, ne_eqb (get_or l i 0) 32 e, add-one i) (omega arith)
+pub at_space : (l : List ℕ) (i : ℕ) → Some i ≡ position space l → words_of l
+    ≡ take i l ∷ words_of (take (length l - (i + 1)) (drop (i + 1) l))
+at_space l i e =
+    let p = position-Some space l i 0 (sym e) in
+    let all : length (drop (i + 1) l) ≤ length l - (i + 1) = rw length-drop (omega arith) in
+    split l i p.0 p.1 p.2
+    ∙ ap (λ (m : List ℕ). take i l ∷ words_of m) (sym (take_all (length l - (i + 1)) (drop (i + 1) l) all))
 
--- ---- the words
--- past the end there is none, up to it they are those of the rest
-pub no_words : (line : List ℕ) (at : ℕ) → length line < at → words_from line at ≡ []
-unfolding words_from
-no_words line at h = rw (lt-ltb (length line) at h) refl
-
-words_at : (line : List ℕ) (at : ℕ) → at ≤ length line → words_from line at ≡ words_of (drop at line)
-unfolding words_from
-words_at line at h = rw (le-ltb (length line) at h) refl
-
--- in a line with more before them
-words_on : (line : List ℕ) (at k : ℕ) → at ≤ length line → words_from (drop at line) k ≡ words_from line (at + k)
-words_on line at k h = go (ltb (length line) (at + k)) refl
+pub no_space : (l : List ℕ) → None ≡ position space l → words_of l ≡ l ∷ []
+no_space l e = alone l (λ k h. fails_before_first space l k 0 (past k h))
   where
-    go : (t : Bool) → ltb (length line) (at + k) ≡ t → words_from (drop at line) k ≡ words_from line (at + k)
-    go true q =
-        let past = ltb-true (length line) (at + k) q in
-        no_words (drop at line) k (rw length-drop (omega arith)) ∙ sym (no_words line (at + k) past)
-    go false q =
-        let upto = ltb-false (length line) (at + k) q in
-        words_at (drop at line) k (rw length-drop (omega arith))
-        ∙ ap words_of (drop-drop k at line)
-        ∙ sym (words_at line (at + k) upto)
+    go : (t : Bool) → ltb (position_or_len space l) (length l) ≡ t → None ≡ cond t (Some (position_or_len space l)) None
+        → length l ≤ position_or_len space l
+    go true q p = absurd (let no : ◌≡◌ {A = ℕ} 0 1 = cc in let none : ⊥ = omega arith in none)
+    go false q p = ltb-false (position_or_len space l) (length l) q
 
-first_word : (l : List ℕ) → words_of l ≡ take (until_space l) l ∷ words_from l (1 + until_space l)
-unfolding words_of until_space words_from
-first_word [] = refl
-first_word (b ∷ l) = go (eqb b 32) (first_word l)
-  where
-    go : (t : Bool) → words_of l ≡ take (until_space l) l ∷ words_from l (1 + until_space l)
-        → cond t ([] ∷ words_of l) (onto b (words_of l))
-        ≡ take (cond t 0 (suc (until_space l))) (b ∷ l) ∷ words_from (b ∷ l) (1 + cond t 0 (suc (until_space l)))
-    go true h = ap (◌∷◌ []) (sym (words_at (b ∷ l) 1 (omega arith)))
-    go false h =
-        let more : 1 + suc (until_space l) ≡ 1 + (1 + until_space l) = omega arith in
-        rw (h, more) (ap (◌∷◌ (b ∷ take (until_space l) l)) (words_on (b ∷ l) 1 (1 + until_space l) (omega arith)))
-
-pub next_word : (line : List ℕ) (at end : ℕ) → at ≤ length line → end ≡ end_from line at
-    → words_from line at ≡ take (end - at) (drop at line) ∷ words_from line (end + 1)
-next_word line at end h e =
-    let u = until_space (drop at line) in
-    let size : u ≡ end - at = omega arith in
-    let next : at + (1 + u) ≡ end + 1 = omega arith in
-    words_at line at h ∙ first_word (drop at line) ∙ rw (words_on line at (1 + u) h, next, size) refl
-
--- the whole line's
-pub first_words : (line : List ℕ) (end : ℕ) → end ≡ end_from line 0
-    → words_of line ≡ take end line ∷ words_from line (end + 1)
-first_words line end e =
-    let size : until_space line ≡ end = omega arith in
-    let next : 1 + until_space line ≡ end + 1 = omega arith in
-    first_word line ∙ rw (next, size) refl
+    past : (k : ℕ) → k < length l → k < position_or_len space l
+    past k h = let most = go (ltb (position_or_len space l) (length l)) refl e in omega arith

@@ -1,2 +1,2 @@
 -- What functions say to one another: nobody has to believe it, as what a line asks for does not cite it.
-pub mod Cursors
+pub mod Left

@@ -1,16 +1,12 @@
 -- A request, read from a whole line of at most 65,535 bytes: the word of a verb, the verb's fields, for some verbs K
 -- and a list of K numbers, N, and N samples.
 use Rattle.std.specs.Prelude.{Bool, true, false, cond, List, [], ◌∷◌, ℕ, ◌*◌, ◌-◌, ◌≤◌, ◌<◌, ltb, eqb, ℤ, length, get_or, replicate}
-use Rattle.std.proofs.Math.Option.{Option, none, some}
-use Rattle.numerals.specs.declared.number.Natural.{Natural}
-use Rattle.numerals.specs.declared.number.Natural.TheVariants as naturals
-use Rattle.numerals.specs.declared.number.Sample.{Sample}
-use Rattle.numerals.specs.declared.number.Sample.TheVariants as samples
+use Rattle.std.specs.Prelude.{Option, Some, None}
+use Rattle.requests.specs.declared.kinds.Kind.{Kind}
+use Rattle.requests.specs.declared.kinds.Kind.TheVariants.{Component, Short, Double, Long}
 use Rattle.verbs.specs.declared.Verb.{Verb}
 use Rattle.verbs.specs.declared.Verb.TheVariants.{Transform, Quantise, SubBlock, ScaleBack, Inverse, Guarded, Measure}
 use Rattle.verbs.specs.declared.Verb.TheVariants.{Write, Read}
-use Rattle.verbs.specs.declared.Named.{Named}
-use Rattle.verbs.specs.declared.Named.TheVariants as names
 use Rattle.numerals.specs.Number.{natural_up_to, sample_of, bits_of}
 use Rattle.verbs.specs.Verbs.{verb_of}
 use Rattle.requests.specs.Words.{words_of}
@@ -18,35 +14,27 @@ use Rattle.requests.specs.Words.{words_of}
 -- ---- nothing where a part is nothing, so that `do` reads one part after the other
 infixl 1 ◌>>=◌
 abbrev pub ◌>>=◌ : {A B : Type 0} → Option A → (A → Option B) → Option B
-◌>>=◌ none f = none
-◌>>=◌ (some a) f = f a
+◌>>=◌ None f = None
+◌>>=◌ (Some a) f = f a
 
--- what is read of a word is nothing where it is malformed
-abbrev pub number : Natural → Option ℕ
-number (naturals.Is n) = some n
-number naturals.Malformed = none
-
-abbrev pub sample : Sample → Option ℤ
-sample (samples.Is x) = some x
-sample samples.Malformed = none
-
-abbrev pub named : Named → Option Verb
-named (names.Is v) = some v
-named names.Malformed = none
-
--- ---- fields, each by its kind, which is a letter: a component (`c`, 99), a number of 32 bits (`i`, 105), the bits of
--- an f64 (`x`, 120), and any number of 64 bits (`w`, 119)
+-- ---- fields, each by its kind
 -- the most that a field of a kind can be
-abbrev pub limit_of : ℕ → ℕ
-limit_of kind = cond (eqb kind 99) 2 (cond (eqb kind 105) 4294967295 18446744073709551615)
+abbrev pub limit_of : Kind → ℕ
+limit_of Component = 2
+limit_of Short = 4294967295
+limit_of Double = 18446744073709551615
+limit_of Long = 18446744073709551615
 
-unfoldable pub field_of : ℕ → List ℕ → Natural
+unfoldable pub field_of : Kind → List ℕ → Option ℕ
 unfolding bits_of natural_up_to
-field_of kind w = cond (eqb kind 120) (bits_of w) (natural_up_to (limit_of kind) w)
+field_of Component w = natural_up_to (limit_of Component) w
+field_of Short w = natural_up_to (limit_of Short) w
+field_of Double w = bits_of w
+field_of Long w = natural_up_to (limit_of Long) w
 
 -- the 28 costs
-abbrev pub cost_kinds : List ℕ
-cost_kinds = replicate 28 119
+abbrev pub cost_kinds : List Kind
+cost_kinds = replicate 28 Long
 
 -- the fields of each verb, up to its list or the number of samples:
 --   transform: LOG2W LOG2H
@@ -58,40 +46,40 @@ cost_kinds = replicate 28 119
 --   measure: LOG2 QP FLAGS RESIDUALS
 --   write: LOG2
 --   read: LOG2
-abbrev pub kinds_of : Verb → List ℕ
-kinds_of Transform = 119 ∷ 119 ∷ []
-kinds_of Quantise = 99 ∷ 119 ∷ 105 ∷ 120 ∷ 105 ∷ cost_kinds
-kinds_of SubBlock = 119 ∷ 105 ∷ 105 ∷ 120 ∷ 105 ∷ 120 ∷ 105 ∷ 120 ∷ 105 ∷ cost_kinds
-kinds_of ScaleBack = 119 ∷ 105 ∷ []
-kinds_of Inverse = 119 ∷ 119 ∷ []
+abbrev pub kinds_of : Verb → List Kind
+kinds_of Transform = Long ∷ Long ∷ []
+kinds_of Quantise = Component ∷ Long ∷ Short ∷ Double ∷ Short ∷ cost_kinds
+kinds_of SubBlock = Long ∷ Short ∷ Short ∷ Double ∷ Short ∷ Double ∷ Short ∷ Double ∷ Short ∷ cost_kinds
+kinds_of ScaleBack = Long ∷ Short ∷ []
+kinds_of Inverse = Long ∷ Long ∷ []
 kinds_of Guarded =
-    119 ∷ 105 ∷ 105 ∷ 120 ∷ 105 ∷ 120 ∷ 105 ∷ 120 ∷ 105 ∷ 105 ∷ 105 ∷ 105 ∷ 105 ∷ 105 ∷ 105 ∷ cost_kinds
-kinds_of Measure = 119 ∷ 105 ∷ 105 ∷ 119 ∷ []
-kinds_of Write = 119 ∷ []
-kinds_of Read = 119 ∷ []
+    Long ∷ Short ∷ Short ∷ Double ∷ Short ∷ Double ∷ Short ∷ Double ∷ Short ∷ Short ∷ Short ∷ Short ∷ Short ∷ Short ∷ Short ∷ cost_kinds
+kinds_of Measure = Long ∷ Short ∷ Short ∷ Long ∷ []
+kinds_of Write = Long ∷ []
+kinds_of Read = Long ∷ []
 
 -- a number for each kind, from the words at the front, and the words behind them
-unfoldable pub fields_of : List ℕ → List (List ℕ) → Option (List ℕ × List (List ℕ))
+unfoldable pub fields_of : List Kind → List (List ℕ) → Option (List ℕ × List (List ℕ))
 unfolding field_of
-fields_of [] words = some ([], words)
-fields_of (k ∷ kinds) [] = none
+fields_of [] words = Some ([], words)
+fields_of (k ∷ kinds) [] = None
 fields_of (k ∷ kinds) (w ∷ words) = do
-  n ← number (field_of k w)
+  n ← field_of k w
   (fields, behind) ← fields_of kinds words
-  some (n ∷ fields, behind)
+  Some (n ∷ fields, behind)
 
 -- no field is above its limit
-abbrev pub Limited : List ℕ → List ℕ → Type 0
-Limited kinds fields = (k : ℕ) → k < length kinds → get_or fields k 0 ≤ limit_of (get_or kinds k 0)
+abbrev pub Limited : List Kind → List ℕ → Type 0
+Limited kinds fields = (k : ℕ) → k < length kinds → get_or fields k 0 ≤ limit_of (get_or kinds k Component)
 
 -- ---- K and N
 -- such a number, at most `most`, and the words behind it
 unfoldable pub count_of : (most : ℕ) → List (List ℕ) → Option (ℕ × List (List ℕ))
 unfolding natural_up_to
-count_of most [] = none
+count_of most [] = None
 count_of most (w ∷ words) = do
-  n ← number (natural_up_to most w)
-  some (n, words)
+  n ← natural_up_to most w
+  Some (n, words)
 
 -- ---- the list
 -- whether a verb has one
@@ -107,13 +95,13 @@ has_list Write = true
 has_list Read = true
 
 -- numbers of 32 bits
-abbrev pub list_kinds : ℕ → List ℕ
-list_kinds k = replicate k 105
+abbrev pub list_kinds : ℕ → List Kind
+list_kinds k = replicate k Short
 
 -- K and so many of them, and the words behind; where a verb has no list, there is no K, and its list is empty
 unfoldable pub list_of : (has : Bool) → List (List ℕ) → Option (List ℕ × List (List ℕ))
 unfolding fields_of count_of
-list_of false words = some ([], words)
+list_of false words = Some ([], words)
 list_of true words = do
   (k, behind) ← count_of 4096 words
   fields_of (list_kinds k) behind
@@ -126,15 +114,15 @@ most_behind list = 8192 - 2 * length list
 -- all words
 unfoldable pub samples_of : List (List ℕ) → Option (List ℤ)
 unfolding sample_of
-samples_of [] = some []
+samples_of [] = Some []
 samples_of (w ∷ words) = do
-  x ← sample (sample_of w)
+  x ← sample_of w
   xs ← samples_of words
-  some (x ∷ xs)
+  Some (x ∷ xs)
 
 -- so many, and no other number of them
 abbrev pub exactly : ℕ → List ℤ → Option (List ℤ)
-exactly n xs = cond (eqb (length xs) n) (some xs) none
+exactly n xs = cond (eqb (length xs) n) (Some xs) None
 
 unfoldable pub exactly_of : ℕ → List (List ℕ) → Option (List ℤ)
 unfolding samples_of
@@ -153,7 +141,7 @@ pub record Request : Type 0 where
 unfoldable pub with_samples : Verb → (fields list : List ℕ) → Option (List ℤ) → Option Request
 with_samples verb fields list samples = do
   xs ← samples
-  some (record { verb = verb; fields = fields; list = list; samples = xs })
+  Some (record { verb = verb; fields = fields; list = list; samples = xs })
 
 -- behind the list
 unfoldable pub behind_list : Verb → (fields list : List ℕ) → List (List ℕ) → Option Request
@@ -178,12 +166,12 @@ behind_verb verb words = do
 
 unfoldable pub request_of : List (List ℕ) → Option Request
 unfolding verb_of behind_verb
-request_of [] = none
+request_of [] = None
 request_of (w ∷ words) = do
-  verb ← named (verb_of w)
+  verb ← verb_of w
   behind_verb verb words
 
 -- what a line asks for
 unfoldable pub asked : List ℕ → Option Request
 unfolding words_of request_of
-asked line = cond (ltb 65535 (length line)) none (request_of (words_of line))
+asked line = cond (ltb 65535 (length line)) None (request_of (words_of line))

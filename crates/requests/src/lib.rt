@@ -3,5 +3,6 @@
 // joins them.
 #![tactic(auto)]
 
+pub mod kinds;
 pub mod request;
 pub mod words;

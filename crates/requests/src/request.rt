@@ -1,194 +1,85 @@
 // A request behind its verb: fields, each a number by its kind, then the list of a verb that has one, then the samples.
-ghost use Rattle.std.specs.Prelude.{true, cond, ◌≡◌, ◌≤◌, length};
-ghost use Rattle.std.proofs.Math.Option.{none, some};
-ghost use Rattle.requests.specs.Request.{limit_of, field_of, kinds_of, fields_of, has_list, list_kinds, exactly_of};
-ghost use Rattle.requests.specs.Inner.Cursors.{words_from, Fields, fields_at, Counted, Listed};
+ghost use Rattle.std.specs.Prelude.{◌≡◌, ◌≤◌, length, take, IfSome};
+ghost use Rattle.std.specs.Option.{option_map};
+ghost use Rattle.requests.specs.Request.{kinds_of, fields_of, count_of, has_list, list_kinds, list_of, exactly_of};
+ghost use Rattle.requests.specs.Inner.Left.{left, Fields};
 
-use crate::words::word_end;
-use numerals::number::{Natural, Sample, read_bits, read_natural, read_sample};
+use crate::kinds::{Kind, kinds_of};
+use crate::words::Words;
+use numerals::number::{read_natural, read_sample};
 use verbs::Verb;
 
-// The cursor after some fields, or that one of them is malformed.
-#[derive(Drop)]
-pub enum Place {
-    At(usize),
-    Malformed,
-}
-
-// The most that a field of a kind can be: a component, a number of 32 bits, any number.
-fn limit_of(kind: u8) -> u64
-    ensures { result ≡ limit_of kind }
+// A field for each kind, in front of the array.
+fn read_fields(words: &mut Words, kinds: &[Kind]) -> Option<[u64; 48]>
+    requires { length kinds.now ≤ 48 }
+    ensures { Fields kinds.now (left words.old) (left words.new) result }
 {
-    if kind == b'c' {
-        return 2;
+    let mut fields = [0; 48];
+    for (i, kind) in kinds.iter().enumerate() {
+        fields[i] = kind.read(words.take_word()?)?;
     }
-    if kind == b'i' {
-        return 4294967295;
-    }
-    18446744073709551615
+    Some(fields)
 }
 
-fn read_field(word: &[u8], kind: u8) -> Natural
-    ensures { result ≡ field_of kind word.now }
+// The fields of a verb.
+pub fn read_head(verb: Verb, words: &mut Words) -> Option<[u64; 48]>
+    ensures { Fields (kinds_of verb) (left words.old) (left words.new) result }
 {
-    if kind == b'x' {
-        return read_bits(word);
-    }
-    read_natural(word, limit_of(kind))
+    read_fields(words, kinds_of(verb))
 }
 
-// A field for each kind, from the cursor `at` on.
-fn read_fields(line: &[u8], at: usize, kinds: &[u8], fields: &mut [u64]) -> Place
-    requires { length kinds.now ≤ length fields.old }
-    ensures { Fields kinds.now line.now at fields.new result }
+// How many numbers or samples follow, at most `most`.
+pub fn read_count(words: &mut Words, most: u64) -> Option<usize>
+    ensures value { count_of most (left words.old) ≡ option_map (λ n. (n, left words.new)) result }
+    ensures few { IfSome result (λ n. n ≤ most) }
 {
-    let mut next = at;
-    let mut i = 0;
-    while i < kinds.len() {
-        if line.len() < next {
-            return Place::Malformed;
-        }
-        let end = word_end(line, next);
-        let Natural::Is(v) = read_field(&line[next..end], kinds[i]) else {
-            return Place::Malformed;
-        };
-        fields[i] = v;
-        next = end + 1;
-        i += 1;
-    }
-    Place::At(next)
+    let n = read_natural(words.take_word()?, most)?;
+    Some(n as usize)
 }
 
-// The fields of a verb before its list or N:
-//   transform: LOG2W LOG2H
-//   quantise: COMPONENT LOG2 QP LAMBDA FLAGS, COSTS
-//   subblock: LOG2 RUN QPY LAMBDAY QPU LAMBDAU QPV LAMBDAV FLAGS, COSTS
-//   scaleback: LOG2 QP
-//   inverse: LOG2W LOG2H
-//   guarded: those of subblock up to FLAGS, DARKERY DARKERU DARKERV LIGHTERY LIGHTERU LIGHTERV, COSTS
-//   measure: LOG2 QP FLAGS RESIDUALS
-//   write: LOG2
-//   read: LOG2
-pub fn read_head(verb: Verb, line: &[u8], at: usize, fields: &mut [u64; 48]) -> Place
-    ensures { Fields (kinds_of verb) line.now at fields.new result }
+// Numbers of 32 bits, as many as there is room for.
+fn read_numbers(words: &mut Words, room: &mut [u32]) -> Option<()>
+    ensures { fields_of (list_kinds (length room.old)) (left words.old)
+        ≡ option_map (λ _. (room.new, left words.new)) result }
 {
-    match verb {
-        Verb::Transform => read_fields(line, at, b"ww", fields),
-        Verb::Quantise => read_fields(line, at, b"cwixiwwwwwwwwwwwwwwwwwwwwwwwwwwww", fields),
-        Verb::SubBlock => read_fields(line, at, b"wiixixixiwwwwwwwwwwwwwwwwwwwwwwwwwwww", fields),
-        Verb::ScaleBack => read_fields(line, at, b"wi", fields),
-        Verb::Inverse => read_fields(line, at, b"ww", fields),
-        Verb::Guarded => read_fields(
-            line,
-            at,
-            b"wiixixixiiiiiiiwwwwwwwwwwwwwwwwwwwwwwwwwwww",
-            fields,
-        ),
-        Verb::Measure => read_fields(line, at, b"wiiw", fields),
-        Verb::Write => read_fields(line, at, b"w", fields),
-        Verb::Read => read_fields(line, at, b"w", fields),
+    for place in room.iter_mut() {
+        *place = Kind::Short.read(words.take_word()?)? as u32;
     }
-}
-
-// How many numbers or samples follow, and the cursor after them.
-#[derive(Drop)]
-pub enum Count {
-    Of(usize, usize),
-    Malformed,
-}
-
-// The number itself, at most `most`, and the cursor after it.
-pub fn read_count(line: &[u8], at: usize, most: u64) -> Count
-    ensures { Counted most line.now at result }
-{
-    if line.len() < at {
-        return Count::Malformed;
-    }
-    let end = word_end(line, at);
-    let Natural::Is(n) = read_natural(&line[at..end], most) else {
-        return Count::Malformed;
-    };
-    Count::Of(n as usize, end + 1)
-}
-
-// K numbers of 32 bits, from the cursor `at` on.
-fn read_numbers(line: &[u8], at: usize, k: usize, room: &mut [u32]) -> Place
-    requires { k ≤ length room.old }
-    ensures { fields_of (list_kinds k) (words_from line.now at)
-        ≡ fields_at line.now room.new k result }
-{
-    let mut next = at;
-    let mut i = 0;
-    while i < k {
-        if line.len() < next {
-            return Place::Malformed;
-        }
-        let end = word_end(line, next);
-        let Natural::Is(v) = read_field(&line[next..end], b'i') else {
-            return Place::Malformed;
-        };
-        room[i] = v as u32;
-        next = end + 1;
-        i += 1;
-    }
-    Place::At(next)
-}
-
-// K and the list behind it: K is at most 4,096, as N is then 0.
-fn read_listed(line: &[u8], at: usize, room: &mut [u32]) -> Count
-    requires { length room.old ≡ 4096 }
-    ensures { Listed true line.now at room.new result }
-{
-    let Count::Of(k, first) = read_count(line, at, 4096) else {
-        return Count::Malformed;
-    };
-    let Place::At(next) = read_numbers(line, first, k, room) else {
-        return Count::Malformed;
-    };
-    Count::Of(k, next)
+    Some(())
 }
 
 // Whether a verb has a list.
 pub fn has_list(verb: Verb) -> bool
     ensures { result ≡ has_list verb }
 {
-    match verb {
-        Verb::Write => true,
-        Verb::Read => true,
-        _ => false,
-    }
+    matches!(verb, Verb::Write | Verb::Read)
 }
 
-// The list of a verb that has one; that of any other is empty.
-pub fn read_list(verb: Verb, line: &[u8], at: usize, room: &mut [u32]) -> Count
+// The list of a verb that has one: K, and K numbers, in front of the room. K is at most 4,096, as N is then 0. That of
+// any other verb is empty.
+pub fn read_list(verb: Verb, words: &mut Words, room: &mut [u32]) -> Option<usize>
     requires { length room.old ≡ 4096 }
-    ensures { Listed (has_list verb) line.now at room.new result }
+    ensures value { list_of (has_list verb) (left words.old)
+        ≡ option_map (λ k. (take k room.new, left words.new)) result }
+    ensures few { IfSome result (λ k. k ≤ 4096) }
 {
-    if has_list(verb) {
-        return read_listed(line, at, room);
+    if !has_list(verb) {
+        return Some(0);
     }
-    Count::Of(0, at)
+    let k = read_count(words, 4096)?;
+    read_numbers(words, &mut room[..k])?;
+    Some(k)
 }
 
-// Whether exactly as many samples follow as there is room for.
-pub fn read_samples(line: &[u8], at: usize, room: &mut [i16]) -> bool
-    ensures { exactly_of (length room.old) (words_from line.now at)
-        ≡ cond result (some room.new) none }
+// Samples, exactly as many as there is room for.
+pub fn read_samples(words: &mut Words, room: &mut [i16]) -> Option<()>
+    ensures { exactly_of (length room.old) (left words.old) ≡ option_map (λ _. room.new) result }
 {
-    let n = room.len();
-    let mut next = at;
-    let mut i = 0;
-    while i < n {
-        if line.len() < next {
-            return false;
-        }
-        let end = word_end(line, next);
-        let Sample::Is(v) = read_sample(&line[next..end]) else {
-            return false;
-        };
-        room[i] = v;
-        next = end + 1;
-        i += 1;
+    for place in room.iter_mut() {
+        *place = read_sample(words.take_word()?)?;
     }
-    line.len() < next
+    match words.take_word() {
+        Some(_) => None,
+        None => Some(()),
+    }
 }

@@ -1,14 +1,21 @@
--- `requests::request::read_count` meets its contract: the number is the word at the cursor.
-use mathlib.Core.Path.{sym}
-use Rattle.requests.proofs.Counts.{no_word, no_number, a_number}
+-- The number is the next word.
+use Rattle.std.proofs.Common.{sym}
+use Rattle.numerals.proofs.Reading.{within}
 use Rattle.requests.proofs.request.read_count.Goals as goal
+use Rattle.requests.specs.Request.{count_of}
 
-pub returns-then-line-at : goal.returns-then-line-at
-returns-then-line-at c = no_word _ _ _ c.if-line-at.true
+pub returns-in_err-take_word-clause-value : goal.returns-in_err-take_word-clause-value
+unfolding count_of
+returns-in_err-take_word-clause-value c = rw (c.from_residual.ensures, c.in_err-take_word.ensures)
 
-pub returns-in_default : goal.returns-in_default
-returns-in_default c =
-    no_number _ _ _ _ c.if-line-at.false c.word_end-end.ensures.2 (sym c.in_default.ensures)
+pub returns-in_err-n-clause-value : goal.returns-in_err-n-clause-value
+unfolding count_of
+returns-in_err-n-clause-value c =
+    rw (c.from_residual-in_err-n.ensures, c.in_ok-take_word.ensures, ← c.in_err-n.ensures)
 
-pub returns : goal.returns
-returns c = a_number _ _ _ _ c.if-line-at.false c.word_end-end.ensures.2 _ (sym c.in-Is.ensures)
+pub returns-clause-value : goal.returns-clause-value
+unfolding count_of
+returns-clause-value c = rw (c.in_ok-take_word.ensures, ← c.in_ok-n.ensures)
+
+pub returns-clause-few : goal.returns-clause-few
+returns-clause-few c = within _ _ _ (sym c.in_ok-n.ensures)

@@ -1,47 +1,47 @@
--- `requests::request::read_numbers` meets its contract. The loop's invariant: the numbers so far and the words from the
--- cursor on are together what all the words are.
-use mathlib.Core.Path.{◌≡◌, sym, ◌∙◌}
-use native.Mathlib.Omega.{arith}
-use borrow.Author.Rules.{rules}
+-- The numbers so far and the words that are left are together what all the words are.
+use Rattle.std.proofs.Common.{◌<◌, ◌≤◌, [], length, sym, ap, Some, ◌∙◌, arith}
 use Rattle.requests.specs.Request.{list_kinds}
-use Rattle.requests.proofs.Fields.{field_within, begun, all_read, no_word, no_number, one_read}
+use lib.Seq.{take_all}
+use Rattle.requests.specs.Inner.Left.{left}
+use Rattle.requests.proofs.Fields.{begun, all_read, no_word, no_number, one_read}
 use Rattle.requests.proofs.Lists.{listed, as_listed}
 use Rattle.requests.proofs.request.read_numbers.Goals as goal
 
-pub loop-i-init : goal.loop-i-init
-loop-i-init c = (omega arith, search rules, begun _ _ _ c.args.room.now)
+pub loop-place-init : goal.loop-place-init
+loop-place-init c = begun _ _ []
 
-pub returns-then-line-next : goal.returns-then-line-next
-returns-then-line-next c =
-    let l = c.loop-i in
-    let k = c.args.k in
-    (no_word (list_kinds k) _ _ l.room l.next l.i l.invariant.2 (omega (arith, listed k)) c.if-line-next.true).read
+pub returns-in_err-take_word : goal.returns-in_err-take_word
+returns-in_err-take_word c =
+    let l = c.loop-place in
+    let n = length c.args.room.now in
+    let more : l.place-index < length (list_kinds n) = omega (arith, listed n) in
+    rw c.from_residual.ensures
+    (no_word _ _ l.room _ l.place-index l.invariant more c.in_err-take_word.ensures)
 
-pub returns-in_default : goal.returns-in_default
-returns-in_default c =
-    let l = c.loop-i in
-    let k = c.args.k in
-    (no_number (list_kinds k) _ _ l.room l.next l.i l.invariant.2 (omega (arith, listed k)) _
-    c.if-line-next.false c.word_end-end.ensures.2
-    (as_listed k l.i _ c.loop-i-test.true ∙ sym c.in_default.ensures)).read
+pub returns-in_err-place : goal.returns-in_err-place
+returns-in_err-place c =
+    let l = c.loop-place in
+    let n = length c.args.room.now in
+    let more : l.place-index < length (list_kinds n) = omega (arith, listed n) in
+    rw c.from_residual-in_err-place.ensures
+    (no_number _ _ l.room _ l.place-index l.invariant more _ _ c.in_ok-take_word.ensures
+    (as_listed n l.place-index _ (omega arith) ∙ sym c.in_err-place.ensures.value))
 
-pub overflow_cast-room : goal.overflow_cast-room
-overflow_cast-room c = omega (arith, field_within 105 _ _ (omega arith) (sym c.in-Is.ensures))
+pub overflow_cast-place : goal.overflow_cast-place
+overflow_cast-place c = omega (arith, c.in_ok-place.ensures.within)
 
-pub loop-i-preserved : goal.loop-i-preserved
-loop-i-preserved c =
-    let l = c.loop-i in
-    let k = c.args.k in (
-      omega arith,
-      search rules,
-      one_read (list_kinds k) _ _ l.room l.next l.i l.invariant.2 (omega (arith, listed k)) _
-          c.if-line-next.false c.word_end-end.ensures.2 _ (omega arith)
-          (as_listed k l.i _ c.loop-i-test.true ∙ sym c.in-Is.ensures),
-    )
+pub loop-place-preserved : goal.loop-place-preserved
+loop-place-preserved c =
+    let l = c.loop-place in
+    let n = length c.args.room.now in
+    let more : l.place-index < length (list_kinds n) = omega (arith, listed n) in
+    one_read _ _ l.room _ l.place-index l.invariant more _ _ c.in_ok-take_word.ensures _ (omega arith)
+    (as_listed n l.place-index _ (omega arith) ∙ sym c.in_ok-place.ensures.value)
 
 pub returns : goal.returns
 returns c =
-    let l = c.loop-i in
-    let k = c.args.k in
-    let all : l.i ≡ k = omega arith in
-    rw all at (all_read (list_kinds k) _ _ l.room l.next l.i l.invariant.2 (omega (arith, listed k)))
+    let l = c.loop-place in
+    let n = length c.args.room.now in
+    let done : length (list_kinds n) ≤ l.place-index = omega (arith, listed n) in
+    all_read _ _ l.room _ l.place-index l.invariant done
+    ∙ ap (λ room. Some (room, left l.words)) (take_all l.place-index l.room (omega arith))

@@ -1,13 +1,8 @@
--- `requests::request::read_samples` meets its contract. The loop's invariant: the samples so far and the words from the
--- cursor on are together what all the words are.
-use mathlib.Core.Path.{◌≡◌}
-use Prim.Native.Nat.{◌≤◌, ◌-◌}
-use lib.ListN.{length}
+-- The samples so far and the words that are left are together what all the words are.
+use Rattle.std.proofs.Common.{length}
+use Rattle.requests.specs.Inner.Left.{left}
 use Rattle.requests.proofs.Samples.{Reading}
 use Rattle.requests.proofs.request.read_samples.Given as goal
 
-abbrev pub invariant-loop-i : goal.invariant-loop-i
-invariant-loop-i l = (l.i ≤ l.n) × (length l.room ≡ l.n) × Reading l.line l.at l.n l.room l.next l.i
-
-abbrev pub decreases-loop-i : goal.decreases-loop-i
-decreases-loop-i l = l.n - l.i
+abbrev pub invariant-loop-place : goal.invariant-loop-place
+invariant-loop-place l = Reading (left l.initial.words) (length l.initial.room) l.room (left l.words) l.place-index
