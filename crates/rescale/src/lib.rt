@@ -17,7 +17,7 @@ fn step(level: i16, times: i16, half: u32, down: u32) -> i16
     requires { (nat_abs times ≤ 18432) × (half ≤ 32) × (down ≤ 6) }
     ensures { result ≡ stepped times half down level }
 {
-    let z = (level as i32) * (times as i32) + (half as i32);
+    let z = i32::from(level) * i32::from(times) + half as i32;
     clip(z >> down)
 }
 
@@ -28,20 +28,9 @@ fn part(block: &mut [i16], times: &[i16], half: u32, down: u32)
     requires times_bound { nat_abs (at times.now 0) ≤ 18432 }
     ensures { block.new ≡ map (stepped (at times.now 0) half down) block.old }
 {
-    let n = block.len();
-    let mut i: usize = 0;
-    while i < n {
+    for i in 0..block.len() {
         block[i] = step(block[i], times[i], half, down);
-        i += 1;
     }
-}
-
-// Where the part that begins at i ends.
-fn part_end(i: usize, n: usize) -> usize
-    requires { i < n }
-    ensures { (i < result) × (result ≤ n) × (result ≤ i + 64) }
-{
-    if n - i < 64 { n } else { i + 64 }
 }
 
 // Part after part.
@@ -51,11 +40,10 @@ fn whole(block: &mut [i16], times: u32, half: u32, down: u32)
 {
     let factors = [times as i16; 64];
     let n = block.len();
-    let mut i: usize = 0;
-    while i < n {
-        let e = part_end(i, n);
-        part(&mut block[i..e], &factors, half, down);
-        i = e;
+    for k in 0..n.div_ceil(64) {
+        let start = 64 * k;
+        let end = n.min(start + 64);
+        part(&mut block[start..end], &factors, half, down);
     }
 }
 

@@ -1,60 +1,37 @@
--- `rescale::whole` meets its contract: the parts before i are replaced.
-use mathlib.Core.Path.{◌≡◌, refl, sym, ap, subst, ◌∙◌}
+-- `rescale::whole` meets its contract: the first k parts are replaced.
+use mathlib.Core.Path.{◌≡◌, ap, subst, ◌∙◌}
 use mathlib.Core.List.{List, map, ◌++◌}
-use Prim.Native.Nat.{ℕ, ◌+◌, ◌-◌, ◌≤◌}
+use Prim.Native.Nat.{ℕ, ◌+◌, ◌-◌, ◌*◌, ◌≤◌, min}
 use native.Mathlib.Omega.{arith}
-use borrow.Rule.Slice.PartMut.{mid_of, put_mid, mid_len, same_len_mid}
-use lib.ListN.{length, take, drop, length-map, get_or-replicate}
-use lib.IntN.{ℤ, pos, nat_abs}
+use borrow.Rule.Slice.PartMut.{mid_of, put_mid, mid_len}
+use lib.ListN.{length, take, drop, get_or-replicate}
+use lib.IntN.{ℤ, pos}
 use mir.Syntax.{w16}
 use mir.Val.{to_z}
 use mir.Facts.{to_z_pos}
-use Rattle.integers.proofs.Replace.{replaced_part, replaced_all}
+use Rattle.integers.proofs.Replace.{Replaced, replaced_part}
 use Rattle.rescale.specs.Inner.Step.{stepped}
 use Rattle.rescale.proofs.whole.Goals as goal
 
--- the factor as it is read
-factor_is : (times : ℕ) → times ≤ 18432 → to_z w16 times ≡ pos times
-factor_is times h = to_z_pos w16 (omega arith)
+pub part-requires-clause-by_index : goal.part-requires-clause-by_index
+part-requires-clause-by_index c = λ i h.
+    let long = mid_len (64 * c.loop-k.k) c.min-end.result c.loop-k.block (omega arith) in
+    get_or-replicate 64 i (to_z w16 c.args.times) (pos 0) (omega arith)
 
-pub overflow_cast-factors : goal.overflow_cast-factors
-overflow_cast-factors c = record { sfits = omega (arith, c.requires.0) }
-
-pub loop-i-init : goal.loop-i-init
-loop-i-init c = (omega arith, refl, refl)
-
-pub part-requires : goal.part-requires
-part-requires c =
-    let l = c.loop-i in
-    let a = c in
-    let e = c.part_end-e in
-    let long = mid_len l.i e.result l.block (omega (arith, e.ensures.1)) in record {
-      block_in_bounds = (omega (arith, long, e.ensures.2), a.requires.1, a.requires.2);
-      by_index = λ i h. get_or-replicate 64 i (to_z w16 a.args.times) (pos 0) (omega (arith, long, e.ensures.2));
-      times_bound = subst (λ (z : ℤ). nat_abs z ≤ 18432) (sym (factor_is a.args.times a.requires.0)) a.requires.0;
-    }
-
-pub loop-i-preserved : goal.loop-i-preserved
-loop-i-preserved c =
-    let l = c.loop-i in
-    let a = c in
-    let e = c.part_end-e in
-    let f = stepped (pos a.args.times) a.args.half a.args.down in
-    let k = e.result - l.i in
-    let xs = a.args.block.now in
-    let mid = mid_of l.i k l.block in
-    let is : c.part.new.block ≡ map f mid =
-    c.part.ensures
-    ∙ ap (λ (t : ℤ). map (stepped t a.args.half a.args.down) mid) (factor_is a.args.times a.requires.0) in
-    let ends : l.i + k ≡ e.result = omega (arith, e.ensures.0) in (
-      e.ensures.1,
-      same_len_mid l.i k l.block c.part.new.block (ap length is ∙ length-map mid f) ∙ l.invariant.1,
-      ap (λ (ys : List ℤ). put_mid l.i k l.block ys) is
-          ∙ replaced_part f xs l.block l.i l.invariant.0 l.invariant.2 k
-          ∙ ap (λ (n : ℕ). map f (take n xs) ++ drop n xs) ends,
-    )
-
-pub returns : goal.returns
-returns c =
-    let l = c.loop-i in
-    replaced_all _ c.args.block.now l.block l.i l.invariant.0 l.invariant.2 (omega arith)
+pub loop-k-preserved : goal.loop-k-preserved
+loop-k-preserved c =
+    let l = c.loop-k in
+    let a = c.args in
+    let xs = a.block.now in
+    let start = 64 * l.k in
+    let k = c.min-end.result - start in
+    let f = stepped (pos a.times) a.half a.down in
+    let inside : start ≤ length xs = omega arith in
+    let here : min start (length xs) ≡ start = omega arith in
+    let before = subst (λ (n : ℕ). Replaced f xs n l.block) here l.invariant in
+    let factor : to_z w16 a.times ≡ pos a.times = to_z_pos w16 (omega (arith, c.requires.0)) in
+    let is = c.part.ensures ∙ ap (λ (t : ℤ). map (stepped t a.half a.down) (mid_of start k l.block)) factor in
+    let ends : start + k ≡ min (64 * (l.k + 1)) (length xs) = omega arith in
+    ap (λ (ys : List ℤ). put_mid start k l.block ys) is
+    ∙ replaced_part f xs l.block start inside before k
+    ∙ ap (λ (n : ℕ). map f (take n xs) ++ drop n xs) ends

@@ -1,16 +1,11 @@
--- `rescale::whole` meets its contract: the parts before i are replaced.
-use mathlib.Core.Path.{◌≡◌}
-use Prim.Native.Nat.{◌-◌, ◌≤◌}
-use lib.ListN.{length}
+-- `rescale::whole` meets its contract: the first k parts are replaced.
+use Rattle.std.proofs.Common.{◌*◌, length}
+use Prim.Native.Nat.{min}
 use lib.IntN.{pos}
 use Rattle.integers.proofs.Replace.{Replaced}
 use Rattle.rescale.specs.Inner.Step.{stepped}
 use Rattle.rescale.proofs.whole.Given as goal
 
-abbrev pub invariant-loop-i : goal.invariant-loop-i
-invariant-loop-i l =
-    (l.i ≤ length l.initial.block) × (length l.block ≡ length l.initial.block)
-    × Replaced (stepped (pos l.times) l.half l.down) l.initial.block l.i l.block
-
-abbrev pub decreases-loop-i : goal.decreases-loop-i
-decreases-loop-i l = length l.initial.block - l.i
+abbrev pub invariant-loop-k : goal.invariant-loop-k
+invariant-loop-k l =
+    Replaced (stepped (pos l.times) l.half l.down) l.initial.block (min (64 * l.k) (length l.initial.block)) l.block
