@@ -4,5 +4,6 @@
 
 mod matrices;
 pub mod matrix;
+pub mod number;
 pub mod odd_rows;
 pub mod scales;

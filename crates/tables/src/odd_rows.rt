@@ -1,33 +1,46 @@
 // The odd rows of the matrices, as the butterflies read them: of side 2h the first halves, column after column, so that
-// one value meets the h entries of its column in a row. Taken once a call; in 32 bits for the forward transform, in 16
-// for the inverse.
-ghost use Rattle.std.specs.Prelude.{◌≡◌};
+// one value meets the h entries of its column in a row. Taken once a call and lent.
+ghost use Rattle.std.specs.Prelude.{◌≡◌, map};
 ghost use Rattle.tables.specs.Inner.OddRows.{odd_rows};
 
 use crate::matrices::{NARROW_2, NARROW_4, NARROW_8, NARROW_16, ODD_2, ODD_4, ODD_8, ODD_16};
+use crate::number::Number;
 
-pub fn odd_2() -> [i32; 4]
-    ensures { result ≡ odd_rows 2 }
-{
-    ODD_2
+// Those of the sides 4, 8, 16 and 32.
+#[derive(Drop)]
+pub struct OddRows<T: Number> {
+    pub two: [T; 4],
+    pub four: [T; 16],
+    pub eight: [T; 64],
+    pub sixteen: [T; 256],
+    pub ghost twos: { map T.value two ≡ odd_rows 2 },
+    pub ghost fours: { map T.value four ≡ odd_rows 4 },
+    pub ghost eights: { map T.value eight ≡ odd_rows 8 },
+    pub ghost sixteens: { map T.value sixteen ≡ odd_rows 16 },
 }
 
-pub fn odd_4() -> [i32; 16]
-    ensures { result ≡ odd_rows 4 }
-{
-    ODD_4
+const WIDE: OddRows<i32> = OddRows {
+    two: ODD_2,
+    four: ODD_4,
+    eight: ODD_8,
+    sixteen: ODD_16,
+};
+
+const NARROW: OddRows<i16> = OddRows {
+    two: NARROW_2,
+    four: NARROW_4,
+    eight: NARROW_8,
+    sixteen: NARROW_16,
+};
+
+// In 32 bits, for the transform.
+pub fn wide_rows() -> OddRows<i32> {
+    WIDE
 }
 
-pub fn odd_8() -> [i32; 64]
-    ensures { result ≡ odd_rows 8 }
-{
-    ODD_8
-}
-
-pub fn odd_16() -> [i32; 256]
-    ensures { result ≡ odd_rows 16 }
-{
-    ODD_16
+// In 16 bits, for its inverse.
+pub fn narrow_rows() -> OddRows<i16> {
+    NARROW
 }
 
 pub fn narrow_2() -> [i16; 4]
