@@ -1,80 +1,97 @@
--- The level of side 2^(l+1) of T, as the line functions go through it: what `fold` asks, what `odd_half` asks of what
--- `fold` left, what the line of half the side asks, and what the row then holds. Each line function is these laws at
--- its own l.
--- Assumes nothing.
-use mathlib.Core.Path.{◌≡◌, refl, ◌∙◌}
+-- One level of T, of side 2^(l+1), as `one_level` goes through it: what `odd_half` asks of what `fold` left, and what
+-- stands in the row once the odd half is copied in. Each line function is this law at its own l.
+use mathlib.Core.Path.{◌≡◌, ◌∙◌, sym, ap, subst}
 use mathlib.Core.List.{List}
-use Prim.Native.Nat.{ℕ, suc, ◌+◌, ◌*◌, ◌^◌, ◌<◌, ◌≤◌}
+use Prim.Native.Nat.{ℕ, suc, ◌+◌, ◌-◌, ◌*◌, ◌^◌, ◌<◌, ◌≤◌}
 use native.Mathlib.Omega.{arith}
+use borrow.Rule.Slice.PartMut.{put_mid}
 use lib.Pow.{pow_mono}
-use lib.ListN.{length}
-use lib.IntN.{ℤ, pos, nat_abs}
+use lib.ListN.{length, take, get_or-append}
+use lib.Seq.{get_or-append-add, length-take-le, get_or-drop}
+use lib.IntN.{ℤ, pos}
+use Rattle.std.proofs.lemmas.Slice.{drop-put_mid}
 use Rattle.integers.specs.Sum.{at}
 use Rattle.refusals.specs.Sides.{most_log2}
 use Rattle.tables.specs.Matrix.{matrix}
-use Rattle.tables.specs.Inner.OddRows.{odd_rows}
+use Rattle.tables.specs.Inner.OddRows.{odd_rows_of, odd_rows}
 use Rattle.tables.proofs.Symmetry.{matrix_symmetric}
 use Rattle.tables.proofs.RowSums.{matrix_light}
 use Rattle.tables.proofs.OddRows.{odd_rows_are}
-use Rattle.butterfly.specs.Inner.Lines.{line_at, Folded, gained, spent, Behind, Row, Room}
-use Rattle.butterfly.proofs.OddHalf.{noughts, noughts_at, noughts_length}
-use Rattle.butterfly.proofs.Room.{values_small, sums_room}
+use Rattle.butterfly.specs.Inner.Lines.{line_at, Folded, gained, spent, Halved, Room}
+use Rattle.butterfly.proofs.Room.{sums_room}
 use Rattle.butterfly.proofs.Level as level
 
--- e and o begin as noughts
-pub fold_asks : (l : ℕ) (x : List ℤ) → length x ≡ 2 ^ l + 2 ^ l → Room (suc l) x
-    → ((length (noughts (2 ^ l)) + length (noughts (2 ^ l)) ≡ length x)
-    × (length (noughts (2 ^ l)) ≡ length (noughts (2 ^ l))))
-    × ((i : ℕ) → i < length x → nat_abs (at x i) ≤ 2 ^ 29)
-fold_asks l x long room = ((omega (arith, noughts_length (2 ^ l)), refl), values_small l x long room)
+-- ---- b comes back in place of the h entries from h on
+module _ (h : ℕ) (old b : List ℤ) (room : h + h ≤ length old) (lb : length b ≡ h) where
+  abbrev behind : List ℤ
+  behind = put_mid h (h + h - h) old b
 
--- a line x that has room, once `fold` has left its sums e and its differences o
-pub record Halved (l : ℕ) (x e o : List ℤ) : Type 0 where
-  pub level : l < most_log2
-  pub long : length x ≡ 2 ^ l + 2 ^ l
+  holds : (k : ℕ) → k < h → at behind (h + k) ≡ at b k
+  holds k g =
+      subst (λ (m : ℕ). at behind (m + k) ≡ at b k) (length-take-le h old (omega arith))
+      (get_or-append-add (take h old) _ k (pos 0) ∙ get_or-append b _ (pos 0) k (omega arith))
+
+  kept : (p : ℕ) → h + h ≤ p → at behind p ≡ at old p
+  kept p g =
+      ap (at behind) (omega arith)
+      ∙ sym (get_or-drop (h + h) behind (p - (h + h)) (pos 0))
+      ∙ ap (λ (l : List ℤ). at l (p - (h + h)))
+      (drop-put_mid h (h + h - h) old b (h + h) (omega arith) (omega arith) (omega arith))
+      ∙ get_or-drop (h + h) old (p - (h + h)) (pos 0)
+      ∙ ap (at old) (omega arith)
+
+-- ---- a line x of side 2h that has room, once `fold` has left its sums e and its differences o; the table and the
+-- differences as `odd_half` reads them are t and d
+pub record Taken (l h : ℕ) (x e o t d : List ℤ) : Type 0 where
+  pub few : l < most_log2
+  pub side : h ≡ 2 ^ l
+  pub long : length x ≡ h + h
   pub room : Room (suc l) x
-  pub sums : length e ≡ 2 ^ l
-  pub differences : length o ≡ 2 ^ l
+  pub sums : length e ≡ h
+  pub differences : length o ≡ h
   pub folded : Folded x e o
+  pub table : t ≡ odd_rows h
+  pub read : d ≡ o
 
-module _ {l : ℕ} {x e o : List ℤ} (h : Halved l x e o) where
-  pub sums_ask : Room l e
-  sums_ask = sums_room l x h.long h.room e o h.sums h.folded
+module _ {l h : ℕ} {x e o t d : List ℤ} (k : Taken l h x e o t d) where
+  is_table : t ≡ odd_rows_of matrix (2 ^ l)
+  is_table = k.table ∙ ap odd_rows k.side ∙ odd_rows_are (2 ^ l)
 
-  pub evens_held : (k : ℕ) → k < 2 ^ l → line_at matrix (2 ^ l) e k ≡ line_at matrix (2 ^ l + 2 ^ l) x (2 * k)
-  evens_held =
-      level.even_coefficient matrix l (matrix_symmetric l h.level) x h.long e o h.sums h.folded
+  long_line : length x ≡ 2 ^ l + 2 ^ l
+  long_line = omega (arith, k.long, k.side)
 
-  module _ (t : List ℤ) (et : t ≡ odd_rows (2 ^ l)) where
-    -- b begins as noughts too
-    pub odd_half_asks :
-        ((length o ≡ length (noughts (2 ^ l))) × (length o ≤ 16) × (length o * length o ≤ length t))
-        × (((k : ℕ) → at (noughts (2 ^ l)) k ≡ pos 0)
-        × ((k : ℕ) → k < length (noughts (2 ^ l)) → spent t o (length o) k < 2 ^ 31))
-    odd_half_asks =
-        let is = et ∙ odd_rows_are (2 ^ l) in
-        let mirrored = matrix_symmetric l h.level in (
-          (
-            omega (arith, h.differences, noughts_length (2 ^ l)),
-            omega (arith, h.differences, pow_mono {i = l} {j = 4} (omega (arith, h.level))),
-            level.table_long matrix l mirrored x h.long e o h.sums h.folded h.differences t is,
-          ),
-          (
-            noughts_at (2 ^ l),
-            λ k g. level.odd_half_fits matrix l mirrored x h.long e o h.sums h.folded h.differences t is
-                (matrix_light l h.level) h.room k (omega (arith, noughts_length (2 ^ l))),
-          ),
-        )
+  pub table_long : length o * length o ≤ length t
+  table_long =
+      level.table_long matrix l (matrix_symmetric l k.few) x long_line e o (k.sums ∙ k.side) k.folded
+      (k.differences ∙ k.side) t is_table
 
-    module _ (b : List ℤ) (gains : (k : ℕ) → k < 2 ^ l → at b k ≡ gained t o (length o) k) where
-      pub odds_held : (k : ℕ) → k < 2 ^ l → at b k ≡ line_at matrix (2 ^ l + 2 ^ l) x (2 * k + 1)
-      odds_held k g =
-          gains k g
-          ∙ level.odd_coefficient matrix l (matrix_symmetric l h.level) x h.long e o h.sums h.folded
-          h.differences t (et ∙ odd_rows_are (2 ^ l)) k g
+  pub differences_few : length o ≤ 16
+  differences_few = omega (arith, k.differences, k.side, pow_mono {i = l} {j = 4} (omega (arith, k.few)))
 
-      pub row_held : (old mid new : List ℤ) → length b ≡ 2 ^ l → Behind b old mid → Row matrix l e mid new
-          → Row matrix (suc l) x old new
-      row_held old mid new lb =
-          level.row_joins matrix l (matrix_symmetric l h.level) x h.long e o h.sums h.folded b old mid new
-          lb odds_held
+  pub odd_half_fits : (i : ℕ) → i < h → spent t d (length o) i < 2 ^ 31
+  odd_half_fits i g =
+      subst (λ (z : List ℤ). spent t z (length o) i < 2 ^ 31) (sym k.read)
+      (level.odd_half_fits matrix l (matrix_symmetric l k.few) x long_line e o (k.sums ∙ k.side) k.folded
+      (k.differences ∙ k.side) t is_table (matrix_light l k.few) k.room i (omega (arith, k.side)))
+
+  module _ (b : List ℤ) (gains : (i : ℕ) → i < h → at b i ≡ gained t d (length o) i) where
+    pub odds_held : (i : ℕ) → i < h → at b i ≡ line_at matrix (h + h) x (2 * i + 1)
+    odds_held i g =
+        gains i g
+        ∙ ap (λ (z : List ℤ). gained t z (length o) i) k.read
+        ∙ subst (λ (m : ℕ). gained t o (length o) i ≡ line_at matrix (m + m) x (2 * i + 1)) (sym k.side)
+        (level.odd_coefficient matrix l (matrix_symmetric l k.few) x long_line e o (k.sums ∙ k.side) k.folded
+        (k.differences ∙ k.side) t is_table i (omega (arith, k.side)))
+
+    pub halved : (old : List ℤ) → length b ≡ h → h + h ≤ length old
+        → Halved matrix l x e old (put_mid h (h + h - h) old b)
+    halved old lb wide =
+        record {
+          evens =
+              level.even_coefficient matrix l (matrix_symmetric l k.few) x long_line e o (k.sums ∙ k.side) k.folded;
+          odds = λ i g.
+              subst (λ (m : ℕ). at (put_mid h (h + h - h) old b) (m + i) ≡ line_at matrix (m + m) x (2 * i + 1)) k.side
+              (holds h old b wide lb i (omega (arith, k.side)) ∙ odds_held i (omega (arith, k.side)));
+          kept = λ p g. kept h old b wide lb p (omega (arith, k.side));
+          room = sums_room l x long_line k.room e o (k.sums ∙ k.side) k.folded;
+        }

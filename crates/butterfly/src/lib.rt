@@ -3,11 +3,15 @@
 // large a value may be for that.
 #![tactic(auto)]
 
-ghost use Rattle.std.specs.Prelude.{◌≡◌, ℕ, ◌+◌, ◌*◌, ◌^◌, ◌<◌, ◌≤◌, length, pos, nat_abs, ◌+ℤ◌, ◌*ℤ◌};
+ghost use Rattle.std.specs.Prelude.{◌≡◌, ℕ, suc, ◌+◌, ◌*◌, ◌^◌, ◌<◌, ◌≤◌, length, map, pos, nat_abs, ◌+ℤ◌, ◌*ℤ◌};
 ghost use Rattle.integers.specs.Sum.{at};
+ghost use Rattle.refusals.specs.Sides.{most_log2};
 ghost use Rattle.tables.specs.Matrix.{matrix};
 ghost use Rattle.tables.specs.Inner.OddRows.{odd_rows};
-ghost use Rattle.butterfly.specs.Inner.Lines.{Folded, gained, spent, Behind, Row, Room};
+ghost use Rattle.butterfly.specs.Inner.Lines.{Folded, gained, spent, Halved, Row, Room};
+
+use tables::number::Number;
+use tables::odd_rows::OddRows;
 
 // The sums and the differences of the values that stand equally far from the two ends of x.
 pub fn fold(x: &[i32], e: &mut [i32], o: &mut [i32])
@@ -17,64 +21,62 @@ pub fn fold(x: &[i32], e: &mut [i32], o: &mut [i32])
 {
     let n = x.len();
     let h = e.len();
-    let mut k: usize = 0;
-    while k < h {
+    for k in 0..h {
         let p = x[k];
         let q = x[n - 1 - k];
         e[k] = p + q;
         o[k] = p - q;
-        k += 1;
     }
 }
 
 // Adds v times t to b.
-fn add_times(t: &[i32], v: i32, b: &mut [i32])
+fn add_times<T: Number>(t: &[T], v: T, b: &mut [i32])
     requires t_len { length t.now ≡ length b.old }
-    requires by_index { (k : ℕ) → k < length b.old → nat_abs (at b.old k) + nat_abs (at t.now k) * nat_abs v < 2 ^ 31 }
+    requires by_index { (k : ℕ) → k < length b.old
+        → nat_abs (at b.old k) + nat_abs (at (map T.value t.now) k) * nat_abs (T.value v) < 2 ^ 31 }
     ensures { (k : ℕ) → k < length b.old
-        → at b.new k ≡ at b.old k +ℤ at t.now k *ℤ v }
+        → at b.new k ≡ at b.old k +ℤ at (map T.value t.now) k *ℤ T.value v }
 {
-    let n = b.len();
-    let mut k: usize = 0;
-    while k < n {
-        let s = b[k];
-        b[k] = s + t[k] * v;
-        k += 1;
+    let z = v.wide();
+    for k in 0..b.len() {
+        b[k] += t[k].wide() * z;
     }
 }
 
-// The odd half of a line from its differences: each of them times its column of the odd rows.
-pub fn odd_half(t: &[i32], o: &[i32], b: &mut [i32])
+// The odd half of a line from what stands at its odd places, or from its differences: each of them times its column of
+// the odd rows.
+pub fn odd_half<T: Number>(t: &[T], o: &[T], b: &mut [i32])
     requires o_len { (length o.now ≡ length b.old) × (length o.now ≤ 16)
         × (length o.now * length o.now ≤ length t.now) }
     requires by_index { (k : ℕ) → at b.old k ≡ pos 0 }
-    requires by_index_2 { (k : ℕ) → k < length b.old → spent t.now o.now (length o.now) k < 2 ^ 31 }
+    requires by_index_2 { (k : ℕ) → k < length b.old
+        → spent (map T.value t.now) (map T.value o.now) (length o.now) k < 2 ^ 31 }
     ensures { (k : ℕ) → k < length b.old
-        → at b.new k ≡ gained t.now o.now (length o.now) k }
+        → at b.new k ≡ gained (map T.value t.now) (map T.value o.now) (length o.now) k }
 {
     let h = o.len();
-    let mut n: usize = 0;
-    while n < h {
-        let v = o[n];
+    for n in 0..h {
         let r = n * h;
         let e = r + h;
-        add_times(&t[r..e], v, b);
-        n += 1;
+        add_times(&t[r..e], o[n], b);
     }
 }
 
-// b goes behind as many places of the row as it has itself.
-fn put(b: &[i32], row: &mut [i32])
-    requires { length b.now + length b.now ≤ length row.old }
-    ensures { Behind b.now row.old row.new }
+// One level of a line x of side 2H: its odd coefficients go behind H places of the row, and what comes back are the sums
+// whose coefficients are the even ones.
+fn one_level<const H: usize>(t: &[i32], x: &[i32], row: &mut [i32]) -> [i32; H]
+    ghost l: { ℕ }
+    requires side { (H ≡ 2 ^ l) × (l < most_log2) × (map ⟦<i32 as Number>⟧.value t.now ≡ odd_rows H) }
+    requires x_len { (length x.now ≡ H + H) × (H + H ≤ length row.old) × Room (suc l) x.now }
+    ensures { Halved matrix l x.now result row.old row.new }
 {
-    let h = b.len();
-    let mut k: usize = 0;
-    while k < h {
-        let v = b[k];
-        row[h + k] = v;
-        k += 1;
-    }
+    let mut e = [0i32; H];
+    let mut o = [0i32; H];
+    let mut b = [0i32; H];
+    fold(x, &mut e, &mut o);
+    odd_half(t, &o, &mut b);
+    row[H..H + H].copy_from_slice(&b);
+    e
 }
 
 pub fn line2(x: &[i32], row: &mut [i32])
@@ -87,65 +89,51 @@ pub fn line2(x: &[i32], row: &mut [i32])
     row[1] = 64 * (p - q);
 }
 
-pub fn line4(t2: &[i32; 4], x: &[i32], row: &mut [i32])
-    requires x_len { (length x.now ≡ 4) × (4 ≤ length row.old) × Room 2 x.now }
-    requires t2_value { t2.now ≡ odd_rows 2 }
+pub fn line4(rows: &OddRows<i32>, x: &[i32], row: &mut [i32])
+    requires { (length x.now ≡ 4) × (4 ≤ length row.old) × Room 2 x.now }
     ensures { Row matrix 2 x.now row.old row.new }
 {
-    let mut e = [0i32; 2];
-    let mut o = [0i32; 2];
-    let mut b = [0i32; 2];
-    fold(x, &mut e, &mut o);
-    odd_half(t2, &o, &mut b);
-    put(&b, row);
+    let e: [i32; 2] = one_level(&rows.two, x, row);
     line2(&e, row);
 }
 
-pub fn line8(t4: &[i32; 16], t2: &[i32; 4], x: &[i32], row: &mut [i32])
-    requires x_len { (length x.now ≡ 8) × (8 ≤ length row.old) × Room 3 x.now }
-    requires t4_value { (t4.now ≡ odd_rows 4) × (t2.now ≡ odd_rows 2) }
+#[inline(always)]
+pub fn line8(rows: &OddRows<i32>, x: &[i32], row: &mut [i32])
+    requires { (length x.now ≡ 8) × (8 ≤ length row.old) × Room 3 x.now }
     ensures { Row matrix 3 x.now row.old row.new }
 {
-    let mut e = [0i32; 4];
-    let mut o = [0i32; 4];
-    let mut b = [0i32; 4];
-    fold(x, &mut e, &mut o);
-    odd_half(t4, &o, &mut b);
-    put(&b, row);
-    line4(t2, &e, row);
+    let e: [i32; 4] = one_level(&rows.four, x, row);
+    line4(rows, &e, row);
 }
 
-pub fn line16(t8: &[i32; 64], t4: &[i32; 16], t2: &[i32; 4], x: &[i32], row: &mut [i32])
-    requires x_len { (length x.now ≡ 16) × (16 ≤ length row.old) × Room 4 x.now }
-    requires t8_value { (t8.now ≡ odd_rows 8) × (t4.now ≡ odd_rows 4) × (t2.now ≡ odd_rows 2) }
+pub fn line16(rows: &OddRows<i32>, x: &[i32], row: &mut [i32])
+    requires { (length x.now ≡ 16) × (16 ≤ length row.old) × Room 4 x.now }
     ensures { Row matrix 4 x.now row.old row.new }
 {
-    let mut e = [0i32; 8];
-    let mut o = [0i32; 8];
-    let mut b = [0i32; 8];
-    fold(x, &mut e, &mut o);
-    odd_half(t8, &o, &mut b);
-    put(&b, row);
-    line8(t4, t2, &e, row);
+    let e: [i32; 8] = one_level(&rows.eight, x, row);
+    line8(rows, &e, row);
 }
 
-pub fn line32(
-    t16: &[i32; 256],
-    t8: &[i32; 64],
-    t4: &[i32; 16],
-    t2: &[i32; 4],
-    x: &[i32],
-    row: &mut [i32],
-)
-    requires x_len { (length x.now ≡ 32) × (32 ≤ length row.old) × Room 5 x.now }
-    requires t16_value { (t16.now ≡ odd_rows 16) × (t8.now ≡ odd_rows 8) × (t4.now ≡ odd_rows 4) × (t2.now ≡ odd_rows 2) }
+pub fn line32(rows: &OddRows<i32>, x: &[i32], row: &mut [i32])
+    requires { (length x.now ≡ 32) × (32 ≤ length row.old) × Room 5 x.now }
     ensures { Row matrix 5 x.now row.old row.new }
 {
-    let mut e = [0i32; 16];
-    let mut o = [0i32; 16];
-    let mut b = [0i32; 16];
-    fold(x, &mut e, &mut o);
-    odd_half(t16, &o, &mut b);
-    put(&b, row);
-    line16(t8, t4, t2, &e, row);
+    let e: [i32; 16] = one_level(&rows.sixteen, x, row);
+    line16(rows, &e, row);
+}
+
+// The line of side 2^log2.
+#[inline(always)]
+pub fn line(log2: usize, rows: &OddRows<i32>, x: &[i32], row: &mut [i32])
+    requires side { (1 ≤ log2) × (log2 ≤ most_log2) }
+    requires x_len { (length x.now ≡ 2 ^ log2) × (2 ^ log2 ≤ length row.old) × Room log2 x.now }
+    ensures { Row matrix log2 x.now row.old row.new }
+{
+    match log2 {
+        1 => line2(x, row),
+        2 => line4(rows, x, row),
+        3 => line8(rows, x, row),
+        4 => line16(rows, x, row),
+        _ => line32(rows, x, row),
+    }
 }

@@ -3,7 +3,7 @@ use mathlib.Core.List.{List}
 use Prim.Native.Nat.{ℕ, ◌-◌, ◌^◌, ◌<◌, ◌≤◌}
 use native.Mathlib.Omega.{arith}
 use lib.Dec.{lit<}
-use lib.ListN.{length, length-set}
+use lib.ListN.{length}
 use lib.IntN.{ℤ, pos, nat_abs, ◌+ℤ◌, ◌-ℤ◌}
 use mir.Syntax.{w32}
 use mir.Val.{SFits}
@@ -38,13 +38,10 @@ loop-k-preserved c =
     let j = length x - 1 - k in
     let p = value x small k (omega arith) in
     let q = value x small j (omega arith) in (
-      omega arith,
-      simp length-set l.invariant.1,
-      simp length-set l.invariant.2,
       filled_more (pos 0) l.e (sum_of x) k _ (omega arith)
           (operation_is w32 ◌+ℤ◌ (at x k) (at x j) p q (total x small k j (omega arith) (omega arith)))
-          l.invariant.3,
+          l.invariant.0,
       filled_more (pos 0) l.o (difference_of x) k _ (omega arith)
           (operation_is w32 ◌-ℤ◌ (at x k) (at x j) p q (gap x small k j (omega arith) (omega arith)))
-          l.invariant.4,
+          l.invariant.1,
     )
