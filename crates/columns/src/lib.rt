@@ -2,11 +2,11 @@
 // and what stands in the other columns is kept.
 #![tactic(auto)]
 
-ghost use Rattle.std.specs.Prelude.{◌*◌, ◌^◌, ◌<◌, ◌≤◌, ◌≡◌, length};
+ghost use Rattle.std.specs.Prelude.{◌*◌, ◌^◌, ◌<◌, ◌≤◌, ◌≡◌, length, get_or};
 ghost use Rattle.integers.specs.Sum.{at};
 ghost use Rattle.refusals.specs.Sides.{most_log2};
 ghost use Rattle.butterfly.specs.Inner.Lines.{place};
-ghost use Rattle.columns.specs.Inner.Placed.{Placed};
+ghost use Rattle.columns.specs.Inner.Placed.{PlacedOf, Placed};
 
 // Where coefficient k stands in a row of side 32; a row of a smaller side has it at k times 32 over the side.
 const PLACES: [u8; 32] = [
@@ -15,17 +15,12 @@ const PLACES: [u8; 32] = [
 ];
 
 // The numbers of b down column c of a grid.
-pub fn store(b: &[i32], dst: &mut [i32], width: usize, c: usize)
+pub fn store<T: Copy>(b: &[T], dst: &mut [T], width: usize, c: usize)
     requires { (c < width) × (length b.now * width ≤ length dst.old) }
-    ensures { Placed width c (length b.now) (at b.now) dst.old
-        dst.new }
+    ensures { (d : T) → PlacedOf d width c (length b.now) (λ k. get_or b.now k d) dst.old dst.new }
 {
-    let n = b.len();
-    let mut k: usize = 0;
-    while k < n {
-        let v = b[k];
-        dst[k * width + c] = v;
-        k += 1;
+    for (k, v) in b.iter().enumerate() {
+        dst[k * width + c] = *v;
     }
 }
 
@@ -39,11 +34,9 @@ pub fn store_row(log2: usize, row: &[i32], dst: &mut [i32], width: usize, c: usi
     let places = PLACES;
     let n = row.len();
     let step = 32 / n;
-    let mut k: usize = 0;
-    while k < n {
+    for k in 0..n {
         let p = places[k * step] as usize;
         let v = row[p];
         dst[k * width + c] = v;
-        k += 1;
     }
 }

@@ -1,13 +1,7 @@
--- `columns::store` meets its contract: the first k numbers stand in their places.
-use mathlib.Core.Path.{◌≡◌}
-use Prim.Native.Nat.{◌-◌, ◌≤◌}
-use lib.ListN.{length}
-use Rattle.integers.specs.Sum.{at}
-use Rattle.columns.specs.Inner.Placed.{Placed}
+-- `columns::store` meets its contract: the first k entries stand in their places.
+use Rattle.std.proofs.Common.{get_or}
+use Rattle.columns.specs.Inner.Placed.{PlacedOf}
 use Rattle.columns.proofs.store.Given as goal
 
 abbrev pub invariant-loop-k : goal.invariant-loop-k
-invariant-loop-k l = (l.k ≤ length l.b) × (length l.dst ≡ length l.initial.dst) × Placed l.width l.c l.k (at l.b) l.initial.dst l.dst
-
-abbrev pub decreases-loop-k : goal.decreases-loop-k
-decreases-loop-k l = length l.b - l.k
+invariant-loop-k g l = (d : _) → PlacedOf d l.width l.c l.k (λ i. get_or l.b i d) l.initial.dst l.dst

@@ -1,23 +1,16 @@
 -- `columns::store_row` meets its contract: the first k coefficients stand in their places.
-use mathlib.Core.Path.{refl, ◌∙◌, ap}
-use Prim.Native.Nat.{◌^◌}
-use native.Mathlib.Omega.{arith}
-use borrow.Author.Rules.{rules}
-use lib.ListN.{length, length-set}
+use Rattle.std.proofs.Common.{arith, rules, refl, ◌∙◌, ap, length, ◌^◌}
+use lib.IntN.{pos}
 use Rattle.integers.specs.Sum.{at}
 use Rattle.butterfly.specs.Inner.Lines.{place}
 use Rattle.columns.proofs.Places.{table, place_at, place_inside}
-use Rattle.columns.proofs.Placed.{placed_none, placed_more, place_below}
+use Rattle.columns.proofs.Placed.{placed_of_none, placed_more, place_below}
 use Rattle.columns.proofs.store_row.Goals as goal
 
 pub loop-k-init : goal.loop-k-init
 unfolding table
-loop-k-init c = (
-  omega arith,
-  refl,
-  refl,
-  placed_none c.args.width c.args.c (λ i. at c.args.row.now (place c.args.log2 i)) c.args.dst.now,
-)
+loop-k-init c =
+    (refl, placed_of_none (pos 0) c.args.width c.args.c (λ i. at c.args.row.now (place c.args.log2 i)) c.args.dst.now)
 
 pub bounds-row-p : goal.bounds-row-p
 bounds-row-p c =
@@ -25,7 +18,7 @@ bounds-row-p c =
     let l = c.loop-k in
     omega (
       arith,
-      place_at a.log2 c.requires.0 (length a.row.now) c.requires.1 l.k (omega arith) _ l.invariant.2,
+      place_at a.log2 c.requires.0 (length a.row.now) c.requires.1 l.k (omega arith) _ l.invariant.0,
       place_inside a.log2 c.requires.0 (length a.row.now) c.requires.1 l.k (omega arith),
     )
 
@@ -34,13 +27,11 @@ loop-k-preserved c =
     let a = c.args in
     let l = c.loop-k in
     let inside = place_below a.width a.c l.k (2 ^ a.log2) (length a.dst.now) c.requires.2 (omega arith) c.requires.3 in (
-      omega arith,
-      simp length-set l.invariant.1,
-      l.invariant.2,
+      l.invariant.0,
       placed_more a.width a.c l.k (λ i. at a.row.now (place a.log2 i)) a.dst.now l.dst _ c.requires.2
           (omega (arith, inside))
           (search rules
           ∙ ap (at a.row.now) (place_at a.log2 c.requires.0 (length a.row.now) c.requires.1 l.k (omega arith) _
-          l.invariant.2))
-          l.invariant.3,
+          l.invariant.0))
+          l.invariant.1,
     )

@@ -4,7 +4,7 @@ use mathlib.Core.List.{List}
 use Prim.Native.Nat.{ℕ, ◌+◌, ◌*◌}
 use native.Mathlib.Omega.{arith}
 use lib.ListN.{length}
-use lib.IntN.{ℤ}
+use lib.IntN.{pos, ℤ}
 use Rattle.integers.specs.Sum.{at}
 use Rattle.tables.specs.Matrix.{matrix}
 use Rattle.columns.specs.Inner.Placed.{Placed}
@@ -30,7 +30,7 @@ loop-j-preserved c =
           c.back8.ensures.holds k hk
           ∙ even_line 8 a.src.now l.j c.part.new.e c.part.new.o (omega arith) c.part.ensures k)
           c.back8.ensures.within
-          (subst (λ (m : ℕ). Placed a.lines l.j m (at row) l.dst c.store.new.dst) lr c.store.ensures)
+          (subst (λ (m : ℕ). Placed a.lines l.j m (at row) l.dst c.store.new.dst) lr (c.store.ensures (pos 0)))
           l.invariant.2,
     )
 

@@ -1,9 +1,10 @@
 -- `unstage::lines2` meets its contract: before the turn j the first j lines stand in their columns.
 use native.Mathlib.Omega.{arith}
+use lib.IntN.{pos}
 use Rattle.unstage.proofs.Loop.{passed_more}
 use Rattle.unstage.proofs.lines2.Goals as goal
 
 pub loop-j-preserved : goal.loop-j-preserved
 loop-j-preserved c =
     passed_more 1 c.args.lines c.args.src.now c.args.dst.now c.loop-j.dst c.store.new.dst c.back2.new.row
-    c.loop-j.j (omega arith) (omega arith) (omega arith) c.back2.ensures c.store.ensures c.loop-j.invariant
+    c.loop-j.j (omega arith) (omega arith) (omega arith) c.back2.ensures (c.store.ensures (pos 0)) c.loop-j.invariant
