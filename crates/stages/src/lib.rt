@@ -9,91 +9,23 @@ ghost use Rattle.tables.specs.Matrix.{matrix};
 ghost use Rattle.butterfly.specs.Inner.Lines.{Room};
 ghost use Rattle.stages.specs.Inner.Stages.{Columns, Staged, stage_at};
 
-use butterfly::{fold, line2, line4, line8, line16, line32, odd_half};
+use butterfly::{fold, line, line8, odd_half};
 use columns::{store, store_row};
+use tables::odd_rows::wide_rows;
 
-fn lines2(lines: usize, src: &[i32], dst: &mut [i32])
-    requires { (lines ≤ 32) × (length src.now ≡ lines * 2) × (length dst.old ≡ 2 * lines) × Room 1 src.now }
-    ensures { Staged matrix (λ z. z) 1 lines src.now dst.new lines }
+// The lines of side N, 2^log2.
+fn each_line<const N: usize>(log2: usize, lines: usize, src: &[i32], dst: &mut [i32])
+    requires side { (N ≡ 2 ^ log2) × (1 ≤ log2) × (log2 ≤ most_log2) × (lines ≤ 32) × Room log2 src.now }
+    requires src_len { (length src.now ≡ lines * N) × (length dst.old ≡ N * lines) }
+    ensures { Staged matrix (λ z. z) log2 lines src.now dst.new lines }
 {
-    let mut j: usize = 0;
-    while j < lines {
-        let a = j * 2;
-        let e = a + 2;
-        let mut row = [0i32; 2];
-        line2(&src[a..e], &mut row);
-        store_row(1, &row, dst, lines, j);
-        j += 1;
-    }
-}
-
-fn lines4(lines: usize, src: &[i32], dst: &mut [i32])
-    requires { (lines ≤ 32) × (length src.now ≡ lines * 4) × (length dst.old ≡ 4 * lines) × Room 2 src.now }
-    ensures { Staged matrix (λ z. z) 2 lines src.now dst.new lines }
-{
-    let t2 = tables::odd_rows::odd_2();
-    let mut j: usize = 0;
-    while j < lines {
-        let a = j * 4;
-        let e = a + 4;
-        let mut row = [0i32; 4];
-        line4(&t2, &src[a..e], &mut row);
-        store_row(2, &row, dst, lines, j);
-        j += 1;
-    }
-}
-
-fn lines8(lines: usize, src: &[i32], dst: &mut [i32])
-    requires { (lines ≤ 32) × (length src.now ≡ lines * 8) × (length dst.old ≡ 8 * lines) × Room 3 src.now }
-    ensures { Staged matrix (λ z. z) 3 lines src.now dst.new lines }
-{
-    let t4 = tables::odd_rows::odd_4();
-    let t2 = tables::odd_rows::odd_2();
-    let mut j: usize = 0;
-    while j < lines {
-        let a = j * 8;
-        let e = a + 8;
-        let mut row = [0i32; 8];
-        line8(&t4, &t2, &src[a..e], &mut row);
-        store_row(3, &row, dst, lines, j);
-        j += 1;
-    }
-}
-
-fn lines16(lines: usize, src: &[i32], dst: &mut [i32])
-    requires { (lines ≤ 32) × (length src.now ≡ lines * 16) × (length dst.old ≡ 16 * lines) × Room 4 src.now }
-    ensures { Staged matrix (λ z. z) 4 lines src.now dst.new lines }
-{
-    let t8 = tables::odd_rows::odd_8();
-    let t4 = tables::odd_rows::odd_4();
-    let t2 = tables::odd_rows::odd_2();
-    let mut j: usize = 0;
-    while j < lines {
-        let a = j * 16;
-        let e = a + 16;
-        let mut row = [0i32; 16];
-        line16(&t8, &t4, &t2, &src[a..e], &mut row);
-        store_row(4, &row, dst, lines, j);
-        j += 1;
-    }
-}
-
-fn lines32(lines: usize, src: &[i32], dst: &mut [i32])
-    requires { (lines ≤ 32) × (length src.now ≡ lines * 32) × (length dst.old ≡ 32 * lines) × Room 5 src.now }
-    ensures { Staged matrix (λ z. z) 5 lines src.now dst.new lines }
-{
-    let t16 = tables::odd_rows::odd_16();
-    let t8 = tables::odd_rows::odd_8();
-    let t4 = tables::odd_rows::odd_4();
-    let t2 = tables::odd_rows::odd_2();
-    let mut j: usize = 0;
-    while j < lines {
-        let a = j * 32;
-        let e = a + 32;
-        let mut row = [0i32; 32];
-        line32(&t16, &t8, &t4, &t2, &src[a..e], &mut row);
-        store_row(5, &row, dst, lines, j);
-        j += 1;
+    let rows = wide_rows();
+    for j in 0..lines {
+        let a = j * N;
+        let e = a + N;
+        let mut row = [0i32; N];
+        line(log2, &rows, &src[a..e], &mut row);
+        store_row(log2, &row, dst, lines, j);
     }
 }
 
@@ -104,18 +36,16 @@ fn odds16(lines: usize, src: &[i32], dst: &mut [i32])
     ensures { Columns (λ j k. stage_at matrix 16 src.now j (2 * k + 1)) 8 (2 * lines) (λ j. lines + j)
         dst.new lines }
 {
-    let t8 = tables::odd_rows::odd_8();
-    let mut j: usize = 0;
-    while j < lines {
+    let rows = wide_rows();
+    for j in 0..lines {
         let a = j * 16;
         let z = a + 16;
         let mut e = [0i32; 8];
         let mut o = [0i32; 8];
         let mut b = [0i32; 8];
         fold(&src[a..z], &mut e, &mut o);
-        odd_half(&t8, &o, &mut b);
+        odd_half(&rows.eight, &o, &mut b);
         store(&b, dst, 2 * lines, lines + j);
-        j += 1;
     }
 }
 
@@ -126,19 +56,16 @@ fn evens16(lines: usize, src: &[i32], dst: &mut [i32])
     ensures columns_2 { Columns (λ j k. at dst.old (k * (2 * lines) + (lines + j))) 8 (2 * lines)
         (λ j. lines + j) dst.new lines }
 {
-    let t4 = tables::odd_rows::odd_4();
-    let t2 = tables::odd_rows::odd_2();
-    let mut j: usize = 0;
-    while j < lines {
+    let rows = wide_rows();
+    for j in 0..lines {
         let a = j * 16;
         let z = a + 16;
         let mut e = [0i32; 8];
         let mut o = [0i32; 8];
         let mut row = [0i32; 8];
         fold(&src[a..z], &mut e, &mut o);
-        line8(&t4, &t2, &e, &mut row);
+        line8(&rows, &e, &mut row);
         store_row(3, &row, dst, 2 * lines, j);
-        j += 1;
     }
 }
 
@@ -148,26 +75,15 @@ pub fn stage(log2: usize, lines: usize, src: &[i32], dst: &mut [i32])
     requires src_len { (length src.now ≡ lines * 2 ^ log2) × (length dst.old ≡ 2 ^ log2 * lines) }
     ensures { Staged matrix (λ z. z) log2 lines src.now dst.new lines }
 {
-    if log2 == 1 {
-        lines2(lines, src, dst);
-        return;
+    match log2 {
+        1 => each_line::<2>(1, lines, src, dst),
+        2 => each_line::<4>(2, lines, src, dst),
+        3 => each_line::<8>(3, lines, src, dst),
+        4 if lines == 2 => each_line::<16>(4, lines, src, dst),
+        4 => {
+            odds16(lines, src, dst);
+            evens16(lines, src, dst);
+        }
+        _ => each_line::<32>(5, lines, src, dst),
     }
-    if log2 == 2 {
-        lines4(lines, src, dst);
-        return;
-    }
-    if log2 == 3 {
-        lines8(lines, src, dst);
-        return;
-    }
-    if log2 == 5 {
-        lines32(lines, src, dst);
-        return;
-    }
-    if lines == 2 {
-        lines16(lines, src, dst);
-        return;
-    }
-    odds16(lines, src, dst);
-    evens16(lines, src, dst);
 }

@@ -1,8 +1,6 @@
 -- `stages::evens16` meets its contract: before the turn j the first j lines stand in the even rows, and the
 -- odd rows are kept.
-use mathlib.Core.Path.{◌≡◌}
-use Prim.Native.Nat.{◌+◌, ◌*◌, ◌-◌, ◌≤◌}
-use lib.ListN.{length}
+use Prim.Native.Nat.{◌+◌, ◌*◌}
 use Rattle.integers.specs.Sum.{at}
 use Rattle.tables.specs.Matrix.{matrix}
 use Rattle.stages.specs.Inner.Stages.{stage_at, Columns}
@@ -10,9 +8,6 @@ use Rattle.stages.proofs.evens16.Given as goal
 
 abbrev pub invariant-loop-j : goal.invariant-loop-j
 invariant-loop-j l =
-    (l.j ≤ l.lines) × (length l.dst ≡ length l.initial.dst)
-    × Columns (λ j k. stage_at matrix 16 l.src j (2 * k)) 8 (2 * l.lines) (λ j. j) l.dst l.j
-    × Columns (λ j k. at l.initial.dst (k * (2 * l.lines) + (l.lines + j))) 8 (2 * l.lines) (λ j. l.lines + j) l.dst l.lines
-
-abbrev pub decreases-loop-j : goal.decreases-loop-j
-decreases-loop-j l = l.lines - l.j
+    Columns (λ j k. stage_at matrix 16 l.src j (2 * k)) 8 (2 * l.lines) (λ j. j) l.dst l.j
+    × Columns (λ j k. at l.initial.dst (k * (2 * l.lines) + (l.lines + j))) 8 (2 * l.lines) (λ j. l.lines + j) l.dst
+    l.lines

@@ -1,4 +1,4 @@
--- `stages::stage` meets its contract: a decision over the side.
+-- `stages::stage` meets its contract: the even and the odd rows of lines of 16 are all rows.
 use mathlib.Core.Path.{◌≡◌, sym, ◌∙◌, subst}
 use Prim.Native.Nat.{ℕ}
 use native.Mathlib.Omega.{arith}
@@ -7,8 +7,8 @@ use Rattle.stages.specs.Inner.Stages.{stage_at, Staged}
 use Rattle.stages.proofs.Columns.{all_rows}
 use Rattle.stages.proofs.stage.Goals as goal
 
-pub returns : goal.returns
-returns c =
+pub returns-in-4-2 : goal.returns-in-4-2
+returns-in-4-2 c =
     let a = c.args in
     let e = c.evens16 in
     let sixteen : a.log2 ≡ 4 = omega arith in
