@@ -7,25 +7,21 @@ ghost use Rattle.std.specs.Prelude.{◌≡◌, ℕ, ◌+◌, ◌*◌, ◌^◌, �
 ghost use Rattle.integers.specs.Sum.{at};
 ghost use Rattle.integers.specs.Tests.{some};
 ghost use Rattle.tables.specs.Matrix.{matrix};
-ghost use Rattle.tables.specs.Inner.OddRows.{odd_rows};
 ghost use Rattle.butterfly.specs.Inner.Lines.{line_at, place};
 ghost use Rattle.stages.specs.Inner.Stages.{Staged};
 ghost use Rattle.halves.specs.Inner.Halves.{beyond, half, over};
 
 use butterfly::line32;
 use columns::store_row;
+use tables::odd_rows::{OddRows, wide_rows};
 
 // Whether a value is too large for the sums of its line.
 fn large(line: &[i32]) -> bool
     ensures { result ≡ some (beyond 1047552) line.now }
 {
-    let n = line.len();
     let mut found = false;
-    let mut i: usize = 0;
-    while i < n {
-        let v = line[i];
-        found = found | (v < -1047552) | (1047552 < v);
-        i += 1;
+    for v in line {
+        found |= (*v < -1047552) | (1047552 < *v);
     }
     found
 }
@@ -34,12 +30,8 @@ fn halve(x: &[i32], h: &mut [i32])
     requires { length h.old ≡ length x.now }
     ensures { (i : ℕ) → i < length x.now → at h.new i ≡ half (at x.now i) }
 {
-    let n = x.len();
-    let mut i: usize = 0;
-    while i < n {
-        let z = x[i];
-        h[i] = z >> 1;
-        i += 1;
+    for i in 0..x.len() {
+        h[i] = x[i] >> 1;
     }
 }
 
@@ -50,13 +42,8 @@ fn leave(x: &[i32], h: &[i32], v: &mut [i32])
         × (nat_abs (at x.now i) ≤ 2 ^ 29) }
     ensures { (i : ℕ) → i < length x.now → at v.new i ≡ over (at x.now i) }
 {
-    let n = x.len();
-    let mut i: usize = 0;
-    while i < n {
-        let z = x[i];
-        let u = h[i];
-        v[i] = z - u - u;
-        i += 1;
+    for i in 0..x.len() {
+        v[i] = x[i] - h[i] - h[i];
     }
 }
 
@@ -66,46 +53,25 @@ fn join(p: &[i32], q: &[i32], row: &mut [i32])
     ensures { (i : ℕ) → i < length p.now
         → at row.new i ≡ at p.now i +ℤ half (at q.now i) }
 {
-    let n = p.len();
-    let mut i: usize = 0;
-    while i < n {
-        let u = p[i];
-        let v = q[i];
-        row[i] = u + (v >> 1);
-        i += 1;
+    for i in 0..p.len() {
+        row[i] = p[i] + (q[i] >> 1);
     }
 }
 
-fn small_line(
-    t16: &[i32; 256],
-    t8: &[i32; 64],
-    t4: &[i32; 16],
-    t2: &[i32; 4],
-    x: &[i32],
-    row: &mut [i32],
-)
-    requires x_len { (length x.now ≡ 32) × (length row.old ≡ 32)
+fn small_line(rows: &OddRows<i32>, x: &[i32], row: &mut [i32])
+    requires { (length x.now ≡ 32) × (length row.old ≡ 32)
         × ((i : ℕ) → i < 32 → nat_abs (at x.now i) ≤ 1047552) }
-    requires t16_value { (t16.now ≡ odd_rows 16) × (t8.now ≡ odd_rows 8) × (t4.now ≡ odd_rows 4) × (t2.now ≡ odd_rows 2) }
     ensures { (k : ℕ) → k < 32 → at row.new (place 5 k)
         ≡ half (line_at matrix 32 x.now k) }
 {
     let mut y = [0i32; 32];
-    line32(t16, t8, t4, t2, x, &mut y);
+    line32(rows, x, &mut y);
     halve(&y, row);
 }
 
-fn large_line(
-    t16: &[i32; 256],
-    t8: &[i32; 64],
-    t4: &[i32; 16],
-    t2: &[i32; 4],
-    x: &[i32],
-    row: &mut [i32],
-)
-    requires x_len { (length x.now ≡ 32) × (length row.old ≡ 32)
+fn large_line(rows: &OddRows<i32>, x: &[i32], row: &mut [i32])
+    requires { (length x.now ≡ 32) × (length row.old ≡ 32)
         × ((i : ℕ) → i < 32 → nat_abs (at x.now i) ≤ 2095104) }
-    requires t16_value { (t16.now ≡ odd_rows 16) × (t8.now ≡ odd_rows 8) × (t4.now ≡ odd_rows 4) × (t2.now ≡ odd_rows 2) }
     ensures { (k : ℕ) → k < 32 → at row.new (place 5 k)
         ≡ half (line_at matrix 32 x.now k) }
 {
@@ -115,30 +81,22 @@ fn large_line(
     let mut q = [0i32; 32];
     halve(x, &mut u);
     leave(x, &u, &mut v);
-    line32(t16, t8, t4, t2, &u, &mut p);
-    line32(t16, t8, t4, t2, &v, &mut q);
+    line32(rows, &u, &mut p);
+    line32(rows, &v, &mut q);
     join(&p, &q, row);
 }
 
-fn half_line(
-    t16: &[i32; 256],
-    t8: &[i32; 64],
-    t4: &[i32; 16],
-    t2: &[i32; 4],
-    x: &[i32],
-    row: &mut [i32],
-)
-    requires x_len { (length x.now ≡ 32) × (length row.old ≡ 32)
+fn half_line(rows: &OddRows<i32>, x: &[i32], row: &mut [i32])
+    requires { (length x.now ≡ 32) × (length row.old ≡ 32)
         × ((i : ℕ) → i < 32 → nat_abs (at x.now i) ≤ 2095104) }
-    requires t16_value { (t16.now ≡ odd_rows 16) × (t8.now ≡ odd_rows 8) × (t4.now ≡ odd_rows 4) × (t2.now ≡ odd_rows 2) }
     ensures { (k : ℕ) → k < 32 → at row.new (place 5 k)
         ≡ half (line_at matrix 32 x.now k) }
 {
     if large(x) {
-        large_line(t16, t8, t4, t2, x, row);
-        return;
+        large_line(rows, x, row);
+    } else {
+        small_line(rows, x, row);
     }
-    small_line(t16, t8, t4, t2, x, row);
 }
 
 // The halves of the coefficients of 32 lines, each down its own column.
@@ -147,17 +105,12 @@ pub fn half_stage(src: &[i32], dst: &mut [i32])
         × ((i : ℕ) → i < 1024 → nat_abs (at src.now i) ≤ 2095104) }
     ensures { Staged matrix half 5 32 src.now dst.new 32 }
 {
-    let t16 = tables::odd_rows::odd_16();
-    let t8 = tables::odd_rows::odd_8();
-    let t4 = tables::odd_rows::odd_4();
-    let t2 = tables::odd_rows::odd_2();
-    let mut j: usize = 0;
-    while j < 32 {
+    let rows = wide_rows();
+    for j in 0..32 {
         let a = j * 32;
         let e = a + 32;
         let mut row = [0i32; 32];
-        half_line(&t16, &t8, &t4, &t2, &src[a..e], &mut row);
+        half_line(&rows, &src[a..e], &mut row);
         store_row(5, &row, dst, 32, j);
-        j += 1;
     }
 }

@@ -1,7 +1,4 @@
 -- `halves::halve` meets its contract: the first i halves are stored.
-use mathlib.Core.Path.{◌≡◌}
-use Prim.Native.Nat.{◌-◌, ◌≤◌}
-use lib.ListN.{length}
 use lib.IntN.{pos}
 use Rattle.integers.specs.Sum.{at}
 use Rattle.integers.proofs.Fill.{Filled}
@@ -9,7 +6,4 @@ use Rattle.halves.specs.Inner.Halves.{half}
 use Rattle.halves.proofs.halve.Given as goal
 
 abbrev pub invariant-loop-i : goal.invariant-loop-i
-invariant-loop-i l = (l.i ≤ length l.x) × (length l.h ≡ length l.initial.h) × Filled (pos 0) l.h (λ j. half (at l.x j)) l.i
-
-abbrev pub decreases-loop-i : goal.decreases-loop-i
-decreases-loop-i l = length l.x - l.i
+invariant-loop-i l = Filled (pos 0) l.h (λ j. half (at l.x j)) l.i

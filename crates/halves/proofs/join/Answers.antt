@@ -1,7 +1,6 @@
 -- `halves::join` meets its contract: the first i sums are stored.
 use native.Mathlib.Omega.{arith}
 use borrow.Author.Rules.{rules}
-use lib.ListN.{length-set}
 use lib.IntN.{pos, ◌+ℤ◌}
 use mir.Syntax.{w32}
 use mir.Val.{SFits}
@@ -18,9 +17,6 @@ loop-i-preserved c =
     let p = at c.args.p.now i in
     let q = at c.args.q.now i in
     let fp : SFits w32 p = search rules in
-    let fq : SFits w32 q = search rules in (
-      omega arith,
-      simp length-set l.invariant.1,
+    let fq : SFits w32 q = search rules in
       filled_more (pos 0) l.row (λ j. at c.args.p.now j +ℤ half (at c.args.q.now j)) i _ (omega arith)
-          (join_is p q fp fq (c.requires.by_index i (omega arith))) l.invariant.2,
-    )
+          (join_is p q fp fq (c.requires.by_index i (omega arith))) l.invariant

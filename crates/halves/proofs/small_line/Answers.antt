@@ -6,11 +6,11 @@ use Rattle.columns.proofs.Places.{place_inside}
 use Rattle.halves.specs.Inner.Halves.{half}
 use Rattle.halves.proofs.small_line.Goals as goal
 
-pub line32-requires-clause-x_len : goal.line32-requires-clause-x_len
-line32-requires-clause-x_len c = (
-  c.requires.x_len.0,
+pub line32-requires : goal.line32-requires
+line32-requires c = (
+  c.requires.0,
   omega arith,
-  record { most = 1047552; each = λ i h. c.requires.x_len.2 i (omega arith); room = omega arith },
+  record { most = 1047552; each = λ i h. c.requires.2 i (omega arith); room = omega arith },
 )
 
 pub returns : goal.returns
