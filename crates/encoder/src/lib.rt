@@ -18,7 +18,7 @@ fn root(k: u32) -> u64
 // An encoder's lambda, in millionths.
 pub fn usual(qp: u32) -> u64
     requires { qp ≤ 63 }
-    ensures { result ≡ usual_of qp }
+    ensures { (result ≡ usual_of qp) × (result ≤ 8192000000) }
 {
     let power = 1u64 << (qp / 3);
     (root(qp % 3) * power + 128) / 256
