@@ -1,6 +1,5 @@
 -- The block as the reader's loop fills it: the first i symbols are laid, up to scan place p, and all places from there
 -- on are still 0. When all are laid it is the block that the list tells.
--- Assumes nothing.
 use mathlib.Core.Path.{◌≡◌, refl, sym, ap, subst, ◌∙◌}
 use mathlib.Core.Bool.{false}
 use mathlib.Core.List.{List, [], ◌∷◌, ◌++◌, map}

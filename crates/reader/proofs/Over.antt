@@ -1,6 +1,5 @@
 -- Values laid over a block, and over a buffer that is longer: where each place is met, what was there before does not
 -- matter.
--- Assumes nothing.
 use mathlib.Core.Path.{◌≡◌, sym, ap, ◌∙◌}
 use mathlib.Core.Bool.{false}
 use mathlib.Core.List.{List, ◌++◌, map, append-nil}

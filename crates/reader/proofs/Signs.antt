@@ -1,5 +1,4 @@
 -- A symbol's level as the machine holds it in 16 bits: a magnitude of 15 bits, or its negation.
--- Assumes nothing.
 use mathlib.Core.Path.{◌≡◌, refl, ◌∙◌}
 use Prim.Native.Nat.{ℕ, zero, suc, ◌<◌, ◌^◌}
 use native.Mathlib.Omega.{arith}

@@ -1,11 +1,12 @@
 -- A symbol's tests, one after the other, come to what is wrong with it where it stands.
--- Assumes nothing.
 use mathlib.Core.Path.{◌≡◌, refl, sym, ap, ◌∙◌}
 use mathlib.Core.Bool.{Bool, true, false, not, ◌||◌, beq}
 use Prim.Native.Nat.{ℕ, suc, ◌≤◌, ◌<◌}
 use native.Mathlib.Omega.{arith}
-use borrow.Author.Tests.{eq-eqb, ne_eqb, lt-ltb, le-ltb, ltb-false}
-use lib.Dec.{eqb, ltb}
+use mathlib.Core.Logic.{⊎_elim}
+use borrow.Author.Tests.{lt-ltb, le-ltb, le-leb, lt-leb, ltb-false}
+use Rattle.integers.proofs.Order.{below_or_not}
+use lib.Dec.{eqb, leb, ltb}
 use Rattle.integers.proofs.Tests.{neither}
 use Rattle.runs.specs.declared.Symbol.{Symbol}
 use Rattle.runs.specs.Packing.{unpacked, overfull}
@@ -17,34 +18,34 @@ mark_wrong true false = refl
 mark_wrong false true = refl
 mark_wrong false false = refl
 
+-- a run past the places that are left
+pub past : (n r : ℕ) → leb n r ≡ ltb n (suc r)
+past n r =
+    ⊎_elim (λ (h : n < suc r). rw (lt-ltb n (suc r) h, le-leb n r (omega arith)) refl)
+    (λ (h : suc r ≤ n). rw (le-ltb n (suc r) h, lt-leb n r (omega arith)) refl)
+    (below_or_not n (suc r))
+
 module _ (bits n u : ℕ) (final : Bool) where
-  module _ (s : Symbol) (e : s ≡ unpacked bits u) where
-    pub by_magnitude : s.magnitude ≡ 0 → true ≡ wrong_here bits n u final
-    unfolding wrong_here
-    by_magnitude h = rw (eq-eqb (unpacked bits u).magnitude 0 (ap (λ (x : Symbol). x.magnitude) (sym e) ∙ h)) refl
+  -- the tests of the symbol, one after the other
+  pub tests : (s : Symbol) → s ≡ unpacked bits u
+      → (((eqb s.magnitude 0 || overfull bits u) || ltb n (suc s.run)) || not (beq s.last final))
+      ≡ wrong_here bits n u final
+  unfolding wrong_here
+  tests s e =
+      ap (λ (x : Symbol). (eqb x.magnitude 0 || overfull bits u || ltb n (suc x.run)) || not (beq x.last final)) e
+      ∙ ap (λ (b : Bool). (let s = unpacked bits u in eqb s.magnitude 0 || overfull bits u || ltb n (suc s.run)) || b)
+      (mark_wrong (unpacked bits u).last final)
 
-    module _ (m : s.magnitude ≡ 0 → ⊥) where
-      some_magnitude : eqb (unpacked bits u).magnitude 0 ≡ false
-      some_magnitude =
-          ne_eqb (unpacked bits u).magnitude 0 (λ q. m (ap (λ (x : Symbol). x.magnitude) e ∙ q))
+  -- found by the first three
+  pub found : (s : Symbol) → s ≡ unpacked bits u → ((eqb s.magnitude 0 || overfull bits u) || ltb n (suc s.run)) ≡ true
+      → true ≡ wrong_here bits n u final
+  found s e h = ap (λ (b : Bool). b || not (beq s.last final)) (sym h) ∙ tests s e
 
-      pub by_bits : overfull bits u ≡ true → true ≡ wrong_here bits n u final
-      unfolding wrong_here
-      by_bits o = rw (some_magnitude, o) refl
-
-      module _ (o : overfull bits u ≡ false) where
-        pub by_run : n ≤ s.run → true ≡ wrong_here bits n u final
-        unfolding wrong_here
-        by_run h =
-            let r = ap (λ (x : Symbol). x.run) e in
-            rw (some_magnitude, o, lt-ltb n (suc (unpacked bits u).run) (omega (arith, r, h))) refl
-
-        pub by_mark : s.run < n → not (beq s.last final) ≡ wrong_here bits n u final
-        unfolding wrong_here
-        by_mark h =
-            let r = ap (λ (x : Symbol). x.run) e in
-            rw (some_magnitude, o, le-ltb n (suc (unpacked bits u).run) (omega (arith, r, h)))
-            (ap (λ (x : Symbol). not (beq x.last final)) e ∙ mark_wrong (unpacked bits u).last final)
+  -- or left to the last
+  pub by_mark : (s : Symbol) → s ≡ unpacked bits u
+      → ((eqb s.magnitude 0 || overfull bits u) || ltb n (suc s.run)) ≡ false
+      → not (beq s.last final) ≡ wrong_here bits n u final
+  by_mark s e h = ap (λ (b : Bool). b || not (beq s.last final)) (sym h) ∙ tests s e
 
   -- what is left is enough for a symbol that is not wrong
   pub right_run : wrong_here bits n u final ≡ false → suc (unpacked bits u).run ≤ n

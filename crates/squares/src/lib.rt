@@ -1,3 +1,3 @@
-// A square block of an accepted side beside its scan: what writing and reading symbols both ask of it, and that the
-// scan, in a room as large as the block, meets each of its places. There is no function here.
+// A square block of an accepted side: what writing and reading symbols both ask of it, how large it is at most, and that
+// its scan meets each of its places. There is no function here.
 #![tactic(auto)]

@@ -1,5 +1,4 @@
 -- The levels that are not 0, counted: one by one as a loop meets them, and by the symbols that are still to come.
--- Assumes nothing.
 use mathlib.Core.Path.{◌≡◌, refl, sym, ap, ◌∙◌}
 use mathlib.Core.Bool.{Bool, true, false, cond}
 use mathlib.Core.List.{List}

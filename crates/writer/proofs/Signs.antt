@@ -1,4 +1,4 @@
--- The sign of a level as a symbol has it, by the machine's test. Assumes nothing.
+-- The sign of a level as a symbol has it, by the machine's test.
 use mathlib.Core.Path.{◌≡◌, refl}
 use native.Mathlib.Omega.{arith}
 use borrow.Author.Tests.{le-ltb}

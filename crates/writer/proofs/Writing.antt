@@ -1,6 +1,5 @@
 -- The list as the writer's loop fills it: the first k symbols stand, the others are those of the levels from place p
 -- on, with `run` zeros before it. When all are written, it is the block's list over the one that was lent.
--- Assumes nothing.
 use mathlib.Core.Path.{◌≡◌, refl, sym, ap, subst, ◌∙◌}
 use mathlib.Core.Bool.{Bool, true, false, not, cond}
 use mathlib.Core.List.{List, [], ◌∷◌, ◌++◌, map, append_assoc, append-nil}

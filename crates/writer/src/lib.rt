@@ -2,17 +2,15 @@
 // order, up to the last of them. What the list then holds is the definition's (`runs`), over what it held.
 #![tactic(auto)]
 
-ghost use Rattle.std.specs.Prelude.{◌≡◌, ◌≤◌, ◌^◌, length};
+ghost use Rattle.std.specs.Prelude.{◌≡◌, ◌≤◌, ◌*◌, ◌^◌, length};
 ghost use Rattle.scan.specs.Order.{in_order};
 ghost use Rattle.runs.specs.Runs.{nonzeros, symbol_of};
-ghost use Rattle.squares.specs.Inner.Beside.{Scanned, Square};
+ghost use Rattle.squares.specs.Inner.Beside.{Square};
 ghost use Rattle.writer.specs.Inner.Lists.{Writable, written_over};
 
-use coefficients::skip::absolute;
 use packing::pack;
-use refusals::side;
 use runs::Symbol;
-use scan::{block_place, fill_scan, level_at, scan_place};
+use scan::{Scan, scan_place, value_at};
 
 // How many levels are not 0. They are counted in 16 bits, so that the compiler counts eight at a time.
 pub fn count_levels(block: &[i16]) -> usize
@@ -20,14 +18,12 @@ pub fn count_levels(block: &[i16]) -> usize
     ensures { result ≡ nonzeros block.now }
 {
     let mut count: u16 = 0;
-    let mut i = 0;
-    while i < block.len() {
-        if block[i] != 0 {
+    for level in block {
+        if *level != 0 {
             count += 1;
         }
-        i += 1;
     }
-    count as usize
+    usize::from(count)
 }
 
 // The symbol of a level that stands behind so many zeros. What it is of a level that is 0 says nothing.
@@ -36,7 +32,7 @@ fn symbol_of(level: i16, run: u32, last: bool) -> Symbol
 {
     Symbol {
         run,
-        magnitude: absolute(level),
+        magnitude: u32::from(level.unsigned_abs()),
         negative: level < 0,
         last,
     }
@@ -44,16 +40,17 @@ fn symbol_of(level: i16, run: u32, last: bool) -> Symbol
 
 // The symbols of a block that has `count` of them. A place is stored at every turn, without a branch: what a level that
 // is 0 leaves there is stored over by the next symbol, as there is one.
-fn write_in(block: &[i16], scan: &[u16], w: usize, h: usize, list: &mut [u32], count: usize)
-    requires scanned { Scanned w h scan.now block.now × Writable block.now }
-    requires count_value { (count ≡ nonzeros (in_order w h block.now)) × (count ≤ length list.old) }
-    ensures { list.new ≡ written_over w h block.now list.old count }
+fn write_in(block: &[i16], scan: Scan, list: &mut [u32], count: usize)
+    requires room { (length block.now ≡ scan.w * scan.h) × Writable block.now }
+    requires count_value { (count ≡ nonzeros (in_order scan.w scan.h block.now)) × (count ≤ length list.old) }
+    ensures { list.new ≡ written_over scan.entry.w scan.entry.h block.now list.old count }
 {
     let mut run: u32 = 0;
     let mut p: usize = 0;
     let mut k: usize = 0;
+    // Kept: `while`: it ends with the last symbol, at whatever place; a `for` over the places needs a way out for that.
     while k < count {
-        let level = level_at(block, block_place(scan, w, h, scan_place(p)));
+        let level = value_at(block, scan.block_place(scan_place(p)));
         list[k] = pack(symbol_of(level, run, k + 1 == count));
         if level == 0 {
             run += 1;
@@ -65,39 +62,18 @@ fn write_in(block: &[i16], scan: &[u16], w: usize, h: usize, list: &mut [u32], c
     }
 }
 
-// With a room for the scan that has the block's length.
-fn write_with(block: &[i16], log2_side: usize, list: &mut [u32], count: usize, scan: &mut [u16])
-    requires square { Square log2_side block.now × (length scan.old ≡ length block.now) × Writable block.now }
-    requires count_value { (count ≡ nonzeros block.now) × (count ≤ length list.old) }
-    ensures { list.new
-        ≡ written_over (2 ^ log2_side) (2 ^ log2_side) block.now list.old count }
-{
-    let a = side(log2_side);
-    fill_scan(log2_side, scan);
-    write_in(block, scan, a, a, list, count);
-}
-
-// The room is as large as the blocks of a side need: to clear it takes time.
-fn write_small(block: &[i16], log2_side: usize, list: &mut [u32], count: usize)
-    requires square { Square log2_side block.now × (log2_side ≤ 3) × Writable block.now }
-    requires count_value { (count ≡ nonzeros block.now) × (count ≤ length list.old) }
-    ensures { list.new
-        ≡ written_over (2 ^ log2_side) (2 ^ log2_side) block.now list.old count }
-{
-    let n = block.len();
-    let mut scan = [0u16; 64];
-    write_with(block, log2_side, list, count, &mut scan[..n]);
-}
-
-fn write_large(block: &[i16], log2_side: usize, list: &mut [u32], count: usize)
+// With a room of N places for the scan. It is as large as the blocks of a side need: to clear it takes time.
+fn write_with<const N: usize>(block: &[i16], log2_side: usize, list: &mut [u32], count: usize)
     requires square { Square log2_side block.now × Writable block.now }
+    requires room { (length block.now ≤ N) × (N ≤ 1024) }
     requires count_value { (count ≡ nonzeros block.now) × (count ≤ length list.old) }
     ensures { list.new
         ≡ written_over (2 ^ log2_side) (2 ^ log2_side) block.now list.old count }
 {
     let n = block.len();
-    let mut scan = [0u16; 1024];
-    write_with(block, log2_side, list, count, &mut scan[..n]);
+    let mut room = [0u16; N];
+    let scan = Scan::square(log2_side, &mut room[..n]);
+    write_in(block, scan, list, count);
 }
 
 pub fn write(block: &[i16], log2_side: usize, list: &mut [u32], count: usize)
@@ -107,8 +83,8 @@ pub fn write(block: &[i16], log2_side: usize, list: &mut [u32], count: usize)
         ≡ written_over (2 ^ log2_side) (2 ^ log2_side) block.now list.old count }
 {
     if log2_side <= 3 {
-        write_small(block, log2_side, list, count)
+        write_with::<64>(block, log2_side, list, count)
     } else {
-        write_large(block, log2_side, list, count)
+        write_with::<1024>(block, log2_side, list, count)
     }
 }

@@ -13,7 +13,7 @@ use Rattle.runs.specs.declared.Symbol.{Symbol}
 use Rattle.runs.specs.Packing.{run_bits, unpacked}
 use Rattle.runs.specs.Runs.{level_of}
 use Rattle.runs.proofs.Packing.{unpacked_fits}
-use Rattle.squares.specs.Inner.Beside.{Scanned}
+use Rattle.scan.specs.Scanned.{Scanned}
 use Rattle.reader.specs.Inner.Blocks.{laid_over}
 use Rattle.reader.proofs.Laying.{Laying, laying_as, place_inside, laying_more, laying_all}
 use Rattle.reader.proofs.lay.Goals as goal
@@ -22,7 +22,7 @@ abbrev symbol : List ℕ → ℕ → Symbol
 symbol list i = unpacked run_bits (get_or list i 0)
 
 -- the place of a symbol lies in the block
-inside : (w h : ℕ) (held list : List ℕ) (before block : List ℤ) (p i : ℕ) → Scanned w h held before
+inside : (w h : ℕ) (held list : List ℕ) (before block : List ℤ) (p i : ℕ) → Scanned w h held
     → Laying run_bits w h list before block p i → i < length list → p + (symbol list i).run < w * h
 inside w h held list before block p i s l lt = place_inside _ _ _ _ _ s.wide s.high s.full _ _ _ l lt
 
@@ -40,29 +40,21 @@ put w h block after p place k s t z e f g q r m =
 
 pub scan_place-requires : goal.scan_place-requires
 scan_place-requires c =
-    let s = c.requires.0 in
+    let s = c.args.scan.scanned in
     omega (
       arith,
-      run_is _ c.args.list.now c.loop-i.i c.unpack-s.ensures,
-      inside _ _ _ _ _ _ _ _ s c.loop-i.invariant c.loop-i-test.true,
+      run_is _ c.args.list.now c.loop-u.u-index c.unpack-s.ensures,
+      inside _ _ _ _ _ _ _ _ s c.loop-u.invariant c.loop-u-test.true,
       s.few,
     )
 
 pub block_place-requires : goal.block_place-requires
 block_place-requires c =
-    let s = c.requires.0 in (
-      s.is,
-      omega (
-        arith,
-        c.scan_place.ensures.0,
-        run_is _ c.args.list.now c.loop-i.i c.unpack-s.ensures,
-        inside _ _ _ _ _ _ _ _ s c.loop-i.invariant c.loop-i-test.true,
-        ap length s.is,
-        s.full,
-      ),
-      s.wide,
-      s.high,
-      s.few,
+    omega (
+      arith,
+      c.scan_place.ensures.0,
+      run_is _ c.args.list.now c.loop-u.u-index c.unpack-s.ensures,
+      inside _ _ _ _ _ _ _ _ c.args.scan.scanned c.loop-u.invariant c.loop-u-test.true,
     )
 
 pub level_of-requires : goal.level_of-requires
@@ -70,22 +62,22 @@ level_of-requires c =
     omega (
       arith,
       ap (λ (s : Symbol). s.magnitude) c.unpack-s.ensures,
-      (unpacked_fits run_bits (get_or c.args.list.now c.loop-i.i 0)).magnitude,
+      (unpacked_fits run_bits (get_or c.args.list.now c.loop-u.u-index 0)).magnitude,
     )
 
-pub loop-i-preserved : goal.loop-i-preserved
-loop-i-preserved c =
-    let s = c.requires.0 in
-    let t = symbol c.args.list.now c.loop-i.i in
+pub loop-u-preserved : goal.loop-u-preserved
+loop-u-preserved c =
+    let s = c.args.scan.scanned in
+    let t = symbol c.args.list.now c.loop-u.u-index in
     let held : SFits w16 c.level_of.result = record { sfits = c.level_of.type_inv } in
     laying_as _ _ _ _ _
-    (put c.args.w c.args.h c.loop-i.block _ c.loop-i.p _ _ c.unpack-s.result t _ c.unpack-s.ensures held
-    c.level_of.ensures c.scan_place.ensures.0 c.block_place.ensures.0 c.put_level.ensures)
-    (ap (λ (r : ℕ). c.loop-i.p + r + 1) (run_is _ c.args.list.now c.loop-i.i c.unpack-s.ensures))
-    (laying_more _ _ _ _ _ s.wide s.high s.full _ _ _ c.loop-i.invariant c.loop-i-test.true)
+    (put c.args.scan.w c.args.scan.h c.loop-u.block _ c.loop-u.p _ _ c.unpack-s.result t _ c.unpack-s.ensures held
+    c.level_of.ensures c.scan_place.ensures.0 c.block_place.ensures.0 c.put.ensures)
+    (ap (λ (r : ℕ). c.loop-u.p + r + 1) (run_is _ c.args.list.now c.loop-u.u-index c.unpack-s.ensures))
+    (laying_more _ _ _ _ _ s.wide s.high s.full _ _ _ c.loop-u.invariant c.loop-u-test.true)
 
 pub returns : goal.returns
 unfolding laid_over
 returns c =
-    let s = c.requires.0 in
-    laying_all _ _ _ _ _ s.wide s.high s.full _ _ _ c.loop-i.invariant c.loop-i-test.false
+    let s = c.args.scan.scanned in
+    laying_all _ _ _ _ _ s.wide s.high s.full _ _ _ c.loop-u.invariant c.loop-u-test.false

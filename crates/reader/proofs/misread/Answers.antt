@@ -31,7 +31,7 @@ pub returns-then-wrong_here : goal.returns-then-wrong_here
 returns-then-wrong_here c =
     let l = c.loop-i in
     sym
-    (step c.args.n l.left l.i c.args.list.now _ c.loop-i-test.true l.invariant.1 c.wrong_here.ensures
+    (step c.args.n l.left l.i c.args.list.now _ c.loop-i-test.true l.invariant c.wrong_here.ensures
     ∙ ap (λ (b : Bool). b || behind l.left l.i c.args.list.now) c.if-wrong_here.true)
 
 pub overflow_sub-left : goal.overflow_sub-left
@@ -48,13 +48,11 @@ loop-i-preserved c =
     let l = c.loop-i in
     let list = c.args.list.now in
     let r = ap (λ (s : Symbol). s.run) c.unpack.ensures in
-    let e : suc (unpacked run_bits (get_or list l.i 0)).run ≡ c.unpack.result.run + 1 = omega (arith, r) in (
-      omega (arith, c.loop-i-test.true),
-      step c.args.n l.left l.i list _ c.loop-i-test.true l.invariant.1 c.wrong_here.ensures
-          ∙ ap (λ (b : Bool). b || behind l.left l.i list) c.if-wrong_here.false
-          ∙ ap (λ (k : ℕ). misread run_bits (l.left - k) (drop (l.i + 1) list)) e,
-    )
+    let e : suc (unpacked run_bits (get_or list l.i 0)).run ≡ c.unpack.result.run + 1 = omega (arith, r) in
+    step c.args.n l.left l.i list _ c.loop-i-test.true l.invariant c.wrong_here.ensures
+    ∙ ap (λ (b : Bool). b || behind l.left l.i list) c.if-wrong_here.false
+    ∙ ap (λ (k : ℕ). misread run_bits (l.left - k) (drop (l.i + 1) list)) e
 
 pub returns : goal.returns
 returns c =
-    sym (c.loop-i.invariant.1 ∙ nothing_left run_bits c.loop-i.left c.args.list.now c.loop-i.i c.loop-i-test.false)
+    sym (c.loop-i.invariant ∙ nothing_left run_bits c.loop-i.left c.args.list.now c.loop-i.i c.loop-i-test.false)

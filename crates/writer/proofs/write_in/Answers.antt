@@ -4,7 +4,7 @@ use mathlib.Core.List.{List}
 use Prim.Native.Nat.{ℕ, ◌+◌, ◌*◌, ◌<◌}
 use native.Mathlib.Omega.{arith}
 use lib.Dec.{eqb}
-use lib.ListN.{length, length-map}
+use lib.ListN.{length-map}
 use lib.IntN.{ℤ, pos}
 use mir.Syntax.{w16}
 use mir.Val.{SFits}
@@ -15,7 +15,7 @@ use Rattle.scan.specs.Scan.{scan, scan_at}
 use Rattle.scan.specs.Order.{in_order}
 use Rattle.runs.specs.Packing.{run_bits, packed}
 use Rattle.runs.specs.Runs.{is_zero, symbol_of}
-use Rattle.squares.specs.Inner.Beside.{Scanned}
+use Rattle.scan.specs.Scanned.{Scanned}
 use Rattle.writer.specs.Inner.Lists.{written_over}
 use Rattle.writer.proofs.Counted.{is_0, is_not_0}
 use Rattle.writer.proofs.Writing.{Writing, writing_as, writing_none, place_left, writing_zero, writing_symbol}
@@ -23,7 +23,7 @@ use Rattle.writer.proofs.Writing.{writing_all}
 use Rattle.writer.proofs.write_in.Goals as goal
 use Rattle.writer.proofs.write_in.Goals.{then-level-eq0, else-level-eq0}
 
-module _ (w h : ℕ) (held : List ℕ) (block : List ℤ) (s : Scanned w h held block) where
+module _ (w h : ℕ) (held : List ℕ) (block : List ℤ) (s : Scanned w h held) where
   -- there is a place left in the block
   inside : (bits : ℕ) (before list : List ℕ) (count run p k : ℕ) → Writing bits (in_order w h block) before count list run p k
       → k < count → p < w * h
@@ -45,37 +45,29 @@ loop-k-init c = writing_none _ _ _ _ c.requires.count_value.0
 
 pub scan_place-requires : goal.scan_place-requires
 scan_place-requires c =
-    let s = c.requires.scanned.0 in
+    let s = c.args.scan.scanned in
     omega (arith, inside _ _ _ _ s _ _ _ _ _ _ _ c.loop-k.invariant c.loop-k-test.true, s.few)
 
 pub block_place-requires : goal.block_place-requires
 block_place-requires c =
-    let s = c.requires.scanned.0 in (
-      s.is,
-      omega (
-        arith,
-        c.scan_place.ensures.0,
-        inside _ _ _ _ s _ _ _ _ _ _ _ c.loop-k.invariant c.loop-k-test.true,
-        ap length s.is,
-        s.full,
-      ),
-      s.wide,
-      s.high,
-      s.few,
+    omega (
+      arith,
+      c.scan_place.ensures.0,
+      inside _ _ _ _ c.args.scan.scanned _ _ _ _ _ _ _ c.loop-k.invariant c.loop-k-test.true,
     )
 
 pub loop-k-smaller : goal.loop-k-smaller
-loop-k-smaller c = omega (arith, inside _ _ _ _ c.requires.scanned.0 _ _ _ _ _ _ _ c.loop-k.invariant c.loop-k-test.true)
+loop-k-smaller c = omega (arith, inside _ _ _ _ c.args.scan.scanned _ _ _ _ _ _ _ c.loop-k.invariant c.loop-k-test.true)
 
 pub loop-k-preserved : goal.loop-k-preserved
 loop-k-preserved c =
-    let s = c.requires.scanned.0 in
+    let s = c.args.scan.scanned in
     let v = c.loop-k.invariant in
-    let z = c.level_at-level.result in
-    let held : SFits w16 z = record { sfits = c.level_at-level.type_inv } in
+    let z = c.value_at-level.result in
+    let held : SFits w16 z = record { sfits = c.value_at-level.type_inv } in
     let is = level_is _ _ _ _ s c.loop-k.p c.block_place.result.0 (inside _ _ _ _ s _ _ _ _ _ _ _ v c.loop-k-test.true)
-    (c.block_place.ensures.0 ∙ ap (scan_at c.args.w c.args.h) c.scan_place.ensures.0)
-    ∙ sym c.level_at-level.ensures in
+    (c.block_place.ensures.0 ∙ ap (scan_at c.args.scan.w c.args.scan.h) c.scan_place.ensures.0)
+    ∙ sym (c.value_at-level.ensures (pos 0)) in
     let enough = c.requires.count_value.1 in
     let stored = c.pack.ensures ∙ ap (packed run_bits) c.symbol_of.ensures
     ∙ ap (λ (y : ℤ). packed run_bits (symbol_of c.loop-k.run y (eqb (c.loop-k.k + 1) c.args.count)))

@@ -7,7 +7,7 @@ use Rattle.writer.proofs.write_in.Given as goal
 
 abbrev pub invariant-loop-k : goal.invariant-loop-k
 invariant-loop-k l =
-    Writing run_bits (in_order l.w l.h l.block) l.initial.list l.count l.list l.run l.p l.k
+    Writing run_bits (in_order l.scan.w l.scan.h l.block) l.initial.list l.count l.list l.run l.p l.k
 
 abbrev pub decreases-loop-k : goal.decreases-loop-k
-decreases-loop-k l = l.w * l.h - l.p
+decreases-loop-k l = l.scan.w * l.scan.h - l.p

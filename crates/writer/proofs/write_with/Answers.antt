@@ -1,17 +1,20 @@
--- `writer::write_with` meets its contract.
-use mathlib.Core.Path.{◌∙◌}
-use Rattle.squares.proofs.Squares.{within, scan_room, beside_scan, counted_in_order}
+-- `writer::write_with` meets its contract: the room's front is as long as the block, and the scan there meets each of
+-- its places.
+use Rattle.std.proofs.Common.{arith, ◌∙◌}
+use Rattle.squares.proofs.Squares.{part_length, within, scan_room, counted_in_order}
 use Rattle.writer.proofs.write_with.Goals as goal
 
-pub fill_scan-requires : goal.fill_scan-requires
-fill_scan-requires c =
-    let q = c.requires.square.0 in
-    ((within _ _ q).0, (within _ _ q).1, scan_room _ _ q c.args.scan.now c.requires.square.1)
+pub whole_as_front-square : goal.whole_as_front-square
+whole_as_front-square g c = (c.requires.room.0, omega (arith, c.requires.room.1))
 
-pub write_in-requires-clause-scanned : goal.write_in-requires-clause-scanned
-write_in-requires-clause-scanned c =
-    (beside_scan _ _ c.requires.square.0 _ _ c.fill_scan.ensures c.side-a.ensures.0, c.requires.square.2)
+pub square-scan-requires : goal.square-scan-requires
+square-scan-requires g c =
+    let q = c.requires.square.0 in
+    let w = within _ _ q in
+    (w.0, w.1, part_length g.row.N _ c.requires.room.0 ∙ scan_room _ _ q)
 
 pub write_in-requires-clause-count_value : goal.write_in-requires-clause-count_value
-write_in-requires-clause-count_value c =
-    (c.requires.count_value.0 ∙ counted_in_order _ _ c.requires.square.0 _ c.side-a.ensures.0, c.requires.count_value.1)
+write_in-requires-clause-count_value g c =
+    let e = c.square-scan.ensures in
+    let q = c.requires.square.0 in
+    (c.requires.count_value.0 ∙ counted_in_order _ _ q _ _ e.0 e.1, c.requires.count_value.1)
