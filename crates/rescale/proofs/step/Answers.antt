@@ -28,6 +28,18 @@ module _ (level times : ℤ) (half : ℕ) (read : SFits w16 level) (bound : nat_
 half_is : (half : ℕ) → half ≤ 32 → to_z w32 half ≡ pos half
 half_is half h = to_z_pos w32 (omega arith)
 
+pub overflow_add-z : goal.overflow_add-z
+overflow_add-z c =
+    let level = c.args.level in
+    let times = c.args.times in
+    let l = c.ranges.level in
+    let t = c.ranges.times in
+    let l32 : SFits w32 level = sfits_widen tt l in
+    let t32 : SFits w32 times = sfits_widen tt t in
+    let p = product_fits level times c.args.half l c.requires.0 in
+    simp (c.from.ensures, c.from-2.ensures, to_z-of_z, half_is c.args.half c.requires.1)
+    (whole_fits level times c.args.half l c.requires.0 c.requires.1)
+
 pub returns : goal.returns
 unfolding stepped
 returns c =
