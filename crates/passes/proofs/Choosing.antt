@@ -1,5 +1,5 @@
 -- A place that is weighed: the one offer against 0, in numbers as code holds them, chooses what the search does, since
--- the offer does not depend on the level before and no price reaches what stands for none. Assumes nothing.
+-- the offer does not depend on the level before and no price reaches what stands for none.
 use mathlib.Core.Path.{◌≡◌, refl, sym, ap, subst, ◌∙◌}
 use mathlib.Core.Bool.{Bool, true, false, cond}
 use mathlib.Core.List.{List, ◌∷◌}
@@ -93,9 +93,9 @@ module _ (p : Prices) (g : Scale) (n : ℕ) (ps : List ℕ) (h : Ahead) (k : Hel
   going_on_lem = as_plus p.more t.after_level h.level (as_held n t.after_level h.level k.level)
 
   ends_below : h.rest + p.last < 2 ^ 63
-  ends_below = omega (arith, e.rest, e.modest.last)
+  ends_below = omega (arith, e.rest, p.modest.last)
 
-  pub weighed_on : cond (goes_on r ps t) 1 0 ≡ w.on
+  pub weighed_on : goes_on r ps t ≡ w.taken.goes_on
   unfolding goes_on
   weighed_on =
       rw (ending_is, under_some (h.level + p.more) (h.rest + p.last) ends_below (going_on r ps t) going_on_lem)
@@ -114,13 +114,13 @@ module _ (p : Prices) (g : Scale) (n : ℕ) (ps : List ℕ) (h : Ahead) (k : Hel
   with_level_lem z = rw behind_is (ap some (omega (arith, cost_is p g z L a q.offer.0)))
 
   head_small : (z : Bool) → head_price p z ≤ 2 ^ 49
-  head_small true = e.modest.heads
-  head_small false = e.modest.head
+  head_small true = p.modest.heads
+  head_small false = p.modest.head
 
   small : (z : Bool) → y z ≤ 2 ^ 62
   small z =
       let b = (lower (ltb (h.level + p.more) (h.rest + p.last)) (h.level + p.more) (h.rest + p.last) refl).1 in
-      omega (arith, e.rest, e.modest.last, q.offer.1, head_small z)
+      omega (arith, e.rest, p.modest.last, q.offer.1, head_small z)
 
   module _ (z : Bool) (c : Choice) (i : ChosenOf (x z) (y z) a c) where
     least_is : Holds (suc n) (least_by r z L ps t (nearest g.shift L)) c.price
@@ -141,11 +141,11 @@ module _ (p : Prices) (g : Scale) (n : ℕ) (ps : List ℕ) (h : Ahead) (k : Hel
               (with_zero_lem z),
         ) (sym i.level)
 
-  pub weighed_zero : taken r true L ps t ≡ w.zero
+  pub weighed_zero : taken r true L ps t ≡ w.taken.after_zero
   unfolding taken rule_by
   weighed_zero = taken_is true _ q.zero
 
-  pub weighed_level : taken r false L ps t ≡ w.level
+  pub weighed_level : taken r false L ps t ≡ w.taken.after_level
   unfolding taken rule_by
   weighed_level = taken_is false _ q.level
 

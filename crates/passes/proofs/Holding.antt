@@ -1,6 +1,6 @@
 -- A least price as code holds it: none is a number of 2^63 and more, which no price reaches, so that one comparison of
 -- numbers is enough. What code holds so is the search's where a place is passed, and from where on nothing is kept at
--- all. Assumes nothing.
+-- all.
 use mathlib.Core.Path.{◌≡◌, refl, sym, ap, ◌∙◌}
 use mathlib.Core.Bool.{Bool, true, false, cond}
 use mathlib.Core.List.{List, [], ◌∷◌}
@@ -16,8 +16,7 @@ use Rattle.price.specs.Inner.Search as of-price
 use Rattle.price.proofs.Search.{quiet_ahead}
 use Rattle.scaling.specs.declared.scale.Scale.{Scale}
 use Rattle.weights.specs.declared.prices.Prices.{Prices}
-use Rattle.scaling.specs.Inner.Scale.{Sound}
-use Rattle.weights.specs.Inner.Prices.{Modest, zero_price, rate_by, rule_by}
+use Rattle.weights.specs.Inner.Prices.{zero_price, rate_by, rule_by}
 use Rattle.scaling.proofs.Scaling.{nearest_of_0}
 use Rattle.weights.proofs.Places.{nothing_uncoded}
 use Rattle.ahead.specs.declared.Ahead.{Ahead}
@@ -84,10 +83,10 @@ lower true a b e = let h = ltb-true a b e in (omega arith, omega arith)
 lower false a b e = let h = ltb-false a b e in (omega arith, omega arith)
 
 -- ---- a place that is passed: nothing is kept there
-module _ (p : Prices) (g : Scale) (s : Sound g) where
+module _ (p : Prices) (g : Scale) where
   nothing_top : (rule_by p g).top 0 ≡ 0
   unfolding rule_by
-  nothing_top = nearest_of_0 g.shift (omega (arith, s.low))
+  nothing_top = nearest_of_0 g.shift (omega (arith, g.sound.low))
 
   module _ (z : Bool) (ps : List ℕ) (t : of-price.Ahead) where
     zero_cost : cost (rule_by p g) z 0 0 ≡ zero_price p z
@@ -102,14 +101,14 @@ module _ (p : Prices) (g : Scale) (s : Sound g) where
     unfolding taken taken_by
     passed_taken = rw nothing_top
 
-  pub passed_held : Modest p → (n : ℕ) (ps : List ℕ) (h : Ahead) → Held p g n ps h
+  pub passed_held : (n : ℕ) (ps : List ℕ) (h : Ahead) → Held p g n ps h
       → Held p g (suc n) (0 ∷ ps) (passed_by p h)
   unfolding ahead uncoded
-  passed_held m n ps h k =
+  passed_held n ps h k =
       let t = ahead (rule_by p g) ps in
       record {
-        zero = rw (passed_least true ps t) (held_plus n p.zeros t.after_zero h.zero m.zeros k.zero);
-        level = rw (passed_least false ps t) (held_plus n p.zero t.after_zero h.zero m.zero k.zero);
+        zero = rw (passed_least true ps t) (held_plus n p.zeros t.after_zero h.zero p.modest.zeros k.zero);
+        level = rw (passed_least false ps t) (held_plus n p.zero t.after_zero h.zero p.modest.zero k.zero);
         rest = omega (arith, nothing_uncoded p g, k.rest);
       }
 

@@ -1,6 +1,6 @@
 -- The block that is read off, place by place. A place takes what is chosen there after the level before; behind a
 -- nonzero level that does not go on all is 0, and so it is where nothing is kept. With that the loop of read_off reads
--- off what the search has. Assumes nothing.
+-- off what the search has.
 use mathlib.Core.Path.{◌≡◌, refl, sym, ap, ◌∙◌}
 use mathlib.Core.Bool.{Bool, true, false, cond}
 use mathlib.Core.List.{List, [], ◌∷◌}
@@ -15,13 +15,14 @@ use Rattle.price.specs.Rule.{Rule, is_zero}
 use Rattle.price.specs.Cheapest.{empty_block}
 use Rattle.price.specs.Inner.Search.{Ahead, ahead, taken, taken_by, goes_on, read_off}
 use Rattle.scaling.specs.declared.scale.Scale.{Scale}
-use Rattle.weights.specs.declared.prices.Prices.{Prices}
-use Rattle.scaling.specs.Inner.Scale.{Sound}
+use Rattle.weights.specs.declared.kept.Kept.{Kept}
 use Rattle.weights.specs.Inner.Prices.{rule_by}
-use Rattle.weights.specs.Inner.Places.{kept_at, kept_places, Scanned, Cleared}
-use Rattle.weights.proofs.Places.{places_count, place_at, nothing_there}
+use Rattle.weights.specs.Inner.Places.{kept_at}
+use Rattle.weights.specs.Inner.Chosen.{rule_of, places_of, Blank}
+use Rattle.weights.proofs.Places.{places_count, place_at, nothing_there, some_kept}
 use Rattle.weights.proofs.Filling.{Filled, filled_none, filled_next, filled_all}
-use Rattle.passes.specs.Inner.Passes.{Ends, Decided, stop_with, ReadOff}
+use Rattle.ahead.specs.declared.Taken.{Taken}
+use Rattle.passes.specs.Inner.Passes.{Ends, Takes, taken_after, ReadOff}
 
 -- ---- one place
 pub empty_at : (ps : List ℕ) (k : ℕ) → get_or (empty_block ps) k 0 ≡ 0
@@ -74,160 +75,128 @@ module _ (r : Rule) (z : Bool) (ps ls : List ℕ) (n : ℕ) (h : n < length ps) 
     sym (drop-drop 1 n ls) ∙ ap (drop 1) from_there,
   )
 
--- where a place has taken a: the block goes on, or is 0 from `stop` on
-goes : (r : Rule) (ps ls : List ℕ) (n stop : ℕ) → ((k : ℕ) → stop ≤ k → get_or ls k 0 ≡ 0) → (a on : ℕ) (o : Bool)
-    → (1 ≤ a → on ≡ cond o 1 0)
-    → drop (n + 1) ls ≡ following r ps a o
-    → (n + 1 < stop_with a on n stop → drop (n + 1) ls ≡ read_off r (is_zero a) ps)
-    × ((k : ℕ) → stop_with a on n stop ≤ k → get_or ls k 0 ≡ 0)
-goes r ps ls n stop t zero on o e q = (λ h. q, t)
-goes r ps ls n stop t (suc a) on true e q = rw (e (omega arith)) (λ h. q, t)
-goes r ps ls n stop t (suc a) on false e q = rw (e (omega arith)) (λ h. absurd (omega arith), ended)
-  where
-    ended : (k : ℕ) → n + 1 ≤ k → get_or ls k 0 ≡ 0
-    ended k h =
-        ap (λ (j : ℕ). get_or ls j 0) (let s : k ≡ n + 1 + (k - (n + 1)) = omega arith in s)
-        ∙ sym (get_or-drop (n + 1) ls (k - (n + 1)) 0)
-        ∙ ap (λ (l : List ℕ). get_or l (k - (n + 1)) 0) q
-        ∙ empty_at ps (k - (n + 1))
+-- where a place has taken a: the block goes on, or is 0 from the next place on
+goes : (r : Rule) (ps rest : List ℕ) (a : ℕ) (on : Bool) → rest ≡ following r ps a on → (1 ≤ a → on ≡ true)
+    → rest ≡ read_off r (is_zero a) ps
+goes r ps rest zero on q e = q
+goes r ps rest (suc a) on q e = q ∙ rw (e (omega arith))
+
+ends_there : (r : Rule) (ps rest : List ℕ) (a : ℕ) (on : Bool) → rest ≡ following r ps a on → 1 ≤ a → on ≡ false
+    → (k : ℕ) → get_or rest k 0 ≡ 0
+ends_there r ps rest zero on q some e k = absurd (omega arith)
+ends_there r ps rest (suc a) on q some e k = ap (λ (l : List ℕ). get_or l k 0) (q ∙ rw e) ∙ empty_at ps k
 
 -- ---- the loop
--- what is chosen at place n, after the level before it
-abbrev pub chosen : (after_zero after_level : List ℕ) (prev n : ℕ) → ℕ
-chosen after_zero after_level prev n = cond (is_zero prev) (get_or after_zero n 0) (get_or after_level n 0)
+module _ (given : Kept) where
+  abbrev g : Scale
+  g = given.weights.scale
 
-pub chosen_zero : (after_zero after_level : List ℕ) (prev n : ℕ) → prev ≡ 0 → chosen after_zero after_level prev n
-    ≡ get_or after_zero n 0
-chosen_zero after_zero after_level prev n e = rw e
+  abbrev width : ℕ
+  width = given.scan.w
 
-pub chosen_level : (after_zero after_level : List ℕ) (prev n : ℕ) → (prev ≡ 0 → ⊥) → chosen after_zero after_level prev n
-    ≡ get_or after_level n 0
-chosen_level after_zero after_level zero n h = absurd (h refl)
-chosen_level after_zero after_level (suc b) n h = refl
+  abbrev height : ℕ
+  height = given.scan.h
 
-stop_by : (P : ℕ → Type 0) (a on n stop : ℕ) → P stop → P (n + 1) → P (stop_with a on n stop)
-stop_by P zero on n stop x y = x
-stop_by P (suc a) zero n stop x y = y
-stop_by P (suc a) (suc on) n stop x y = x
+  abbrev kept : ℕ → ℕ
+  kept n = kept_at width height given.magnitudes.now n
 
--- before place n, of one block ls that is read off of ps: as much of it stands; while it goes on the rest of it is what
--- is read off of the places that are left; and from `stop` on it is 0
-record Follows (width height : ℕ) (r : Rule) (ps ls levels : List ℕ) (stop prev n : ℕ) : Type 0 where
-  standing : Filled width height n levels ls
-  going : n < stop → drop n ls ≡ read_off r (is_zero prev) (drop n ps)
-  tail : (k : ℕ) → stop ≤ k → get_or ls k 0 ≡ 0
+  abbrev r : Rule
+  r = rule_of given
 
--- and so of every block for which that is chosen
-pub record Reading (width height end : ℕ) (after_zero after_level ons levels : List ℕ) (stop prev n : ℕ) : Type 0 where
-  pub place : n ≤ stop
-  pub within : stop ≤ end
-  pub room : length levels ≡ width * height
-  blocks : (p : Prices) (g : Scale) (kept : List ℕ) → Sound g → Ends width height kept end
-      → Decided p g width height kept 0 end after_zero after_level ons
-      → Follows width height (rule_by p g) (kept_places g width height kept)
-      (read_off (rule_by p g) false (kept_places g width height kept))
-      levels stop prev n
+  abbrev ps : List ℕ
+  ps = places_of given
 
-module _ (width height end : ℕ) (after_zero after_level ons held : List ℕ) (sc : Scanned width height held) where
-  module _ (p : Prices) (g : Scale) (kept : List ℕ) (sound : Sound g) (ends : Ends width height kept end)
-      (decided : Decided p g width height kept 0 end after_zero after_level ons) where
-    abbrev r : Rule
-    r = rule_by p g
+  abbrev ls : List ℕ
+  ls = read_off r false ps
 
-    abbrev ps : List ℕ
-    ps = kept_places g width height kept
+  -- before place n: as much of the block stands, and the rest of it is what is read off of the places that are left
+  pub record Reading (levels : List ℕ) (prev n : ℕ) : Type 0 where
+    pub room : length levels ≡ width * height
+    pub standing : Filled width height n levels ls
+    pub going : drop n ls ≡ read_off r (is_zero prev) (drop n ps)
 
-    abbrev ls : List ℕ
-    ls = read_off r false ps
+  pub begun : (levels : List ℕ) → Blank given levels → Reading levels 1 0
+  begun levels z =
+      record { room = z.room; standing = filled_none width height levels ls z.cleared; going = refl }
 
-    quiet_place : (k : ℕ) → k < width * height → kept_at width height kept k ≡ 0 → r.top (get_or ps k 0) ≡ 0
-    unfolding rule_by
-    quiet_place k h e =
-        ap (nearest g.shift) (place_at width height held sc g kept k h)
-        ∙ nothing_there g sound (kept_at width height kept k) e
+  quiet_place : (k : ℕ) → k < width * height → kept k ≡ 0 → r.top (get_or ps k 0) ≡ 0
+  unfolding rule_by
+  quiet_place k h e =
+      ap (nearest g.shift) (place_at width height _ given.scan.scanned g _ k h) ∙ nothing_there g (kept k) e
 
-    begins : (levels : List ℕ) → Cleared levels → Follows width height r ps ls levels end 1 0
-    begins levels z =
+  places_many : length ps ≡ width * height
+  places_many = places_count width height _ given.scan.scanned g given.magnitudes.now
+
+  module _ (end : ℕ) (ends : Ends given end) where
+    -- from `end` on the block is 0
+    tail : (k : ℕ) → end ≤ k → get_or ls k 0 ≡ 0
+    tail k h =
+        quiet_read r false ps k
+        (λ l. let i : k < width * height = omega (arith, places_many) in quiet_place k i (ends.tail k h i))
+
+    pub read : (levels : List ℕ) (prev n : ℕ) → end ≤ n → Reading levels prev n → ReadOff given levels
+    read levels prev n le i =
         record {
-          standing = filled_none width height levels ls z;
-          going = λ h. refl;
-          tail =
-              λ k h. quiet_read r false ps k
-              (λ l. let i : k < width * height = omega (arith, places_count width height held sc g kept) in
-              quiet_place k i
-              (ends.tail k h i));
+          room = i.room;
+          levels = filled_all width height levels ls n (λ k l. tail k (omega arith)) i.standing;
         }
 
-    module _ (levels : List ℕ) (stop prev n : ℕ) (f : Follows width height r ps ls levels stop prev n) (lt : n < stop)
-        (le : stop ≤ end)
-        (room : length levels ≡ width * height) (a : ℕ) (chose : a ≡ chosen after_zero after_level prev n) where
+    module _ (levels : List ℕ) (prev n : ℕ) (i : Reading levels prev n) (lt : n < end) (t : Taken) (takes : Takes given n t)
+        (a : ℕ) (chose : a ≡ taken_after t prev) (after : List ℕ) (puts : after ≡ set levels (scan_at width height n) a) where
       inside : n < width * height
       inside = omega (arith, ends.within)
 
       is_taken : a ≡ taken_at r ps n (is_zero prev)
       is_taken = chose ∙ by prev
         where
-          by : (prev : ℕ) → chosen after_zero after_level prev n ≡ taken_at r ps n (is_zero prev)
-          by zero = decided.zero n (omega arith) (omega arith)
-          by (suc b) = decided.level n (omega arith) (omega arith)
+          by : (prev : ℕ) → taken_after t prev ≡ taken_at r ps n (is_zero prev)
+          by zero = takes.zero
+          by (suc b) = takes.level
 
       -- something is kept where a nonzero level is taken
-      kept_there : 1 ≤ a → 1 ≤ kept_at width height kept n
-      kept_there some = by (kept_at width height kept n) refl
-        where
-          by : (m : ℕ) → kept_at width height kept n ≡ m → 1 ≤ m
-          by zero e =
-              absurd (omega (
-                arith,
-                is_taken,
-                quiet_taken r (is_zero prev) (get_or ps n 0) (drop (suc n) ps)
-                    (ahead r (drop (suc n) ps)) (quiet_place n inside e),
-              ))
-          by (suc m) e = omega arith
+      kept_there : 1 ≤ a → 1 ≤ kept n
+      kept_there some =
+          some_kept _ (λ e. absurd (omega (
+            arith,
+            is_taken,
+            quiet_taken r (is_zero prev) (get_or ps n 0) (drop (suc n) ps)
+                (ahead r (drop (suc n) ps)) (quiet_place n inside e),
+          )))
 
-      follows : Follows width height r ps ls (set levels (scan_at width height n) a) (stop_with a (get_or ons n 0) n stop) a
-          (n + 1)
-      follows =
-          let s = one_place r (is_zero prev) ps ls n (omega (arith, inside, places_count width height held sc g kept))
-          (f.going lt) in
-          let q =
-          goes r (drop (suc n) ps) ls n stop f.tail a (get_or ons n 0) (goes_on_at r ps n)
-          (λ some. decided.on n (omega arith) (omega arith) (kept_there some)) (rw is_taken s.1) in
+      place : (get_or ls n 0 ≡ a) × (drop (n + 1) ls ≡ following r (drop (suc n) ps) a (goes_on_at r ps n))
+      place =
+          let s = one_place r (is_zero prev) ps ls n (omega (arith, inside, places_many)) i.going in
+          (s.0 ∙ sym is_taken, rw is_taken s.1)
+
+      room : length after ≡ width * height
+      room = ap length puts ∙ length-set levels (scan_at width height n) a ∙ i.room
+
+      standing : Filled width height (n + 1) after ls
+      standing =
+          rw puts
+          (filled_next width height levels ls n inside _ given.scan.scanned i.room a place.0 i.standing)
+
+      pub goes_further : (1 ≤ a → t.goes_on ≡ true) → Reading after a (n + 1)
+      goes_further on =
           record {
-            standing = filled_next width height levels ls n inside held sc room a (s.0 ∙ sym is_taken) f.standing;
-            going = λ h. q.0 h ∙ ap (λ (k : ℕ). read_off r (is_zero a) (drop k ps)) (sym (add-one n));
-            tail = q.1;
+            room = room;
+            standing = standing;
+            going =
+                goes r (drop (suc n) ps) (drop (n + 1) ls) a (goes_on_at r ps n) place.1
+                (λ some. sym (takes.on (kept_there some)) ∙ on some)
+                ∙ ap (λ (k : ℕ). read_off r (is_zero a) (drop k ps)) (sym (add-one n));
           }
 
-  pub begun : (levels : List ℕ) → length levels ≡ width * height → Cleared levels
-      → Reading width height end after_zero after_level ons levels end 1 0
-  begun levels room z =
-      record {
-        place = omega arith;
-        within = omega arith;
-        room = room;
-        blocks = λ p g kept s e d. begins p g kept s e d
-            levels z;
-      }
-
-  module _ (levels : List ℕ) (stop prev n : ℕ)
-      (i : Reading width height end after_zero after_level ons levels stop prev n) where
-    pub reads : n < stop → (a : ℕ) → a ≡ chosen after_zero after_level prev n
-        → Reading width height end after_zero after_level ons (set levels (scan_at width height n) a)
-        (stop_with a (get_or ons n 0) n stop) a (n + 1)
-    reads h a e =
-        record {
-          place = stop_by (λ (s : ℕ). n + 1 ≤ s) a (get_or ons n 0) n stop (omega arith) (omega arith);
-          within = stop_by (λ (s : ℕ). s ≤ end) a (get_or ons n 0) n stop i.within (omega (arith, i.within));
-          room = length-set levels (scan_at width height n) a ∙ i.room;
-          blocks = λ p g kept s d c. follows p g kept s d c levels stop prev n (i.blocks p g kept s d c) h i.within
-              i.room a e;
-        }
-
-    pub read : stop ≤ n → ReadOff width height end after_zero after_level ons levels
-    read h p g kept s e d =
-        let f = i.blocks p g kept s e d in (
-          i.room,
-          filled_all width height levels (read_off (rule_by p g) false (kept_places g width height kept)) n
-              (λ k l. f.tail k (omega arith)) f.standing,
-        )
+      pub stops : 1 ≤ a → t.goes_on ≡ false → ReadOff given after
+      stops some off =
+          record {
+            room = room;
+            levels = filled_all width height after ls (n + 1) behind standing;
+          }
+        where
+          behind : (k : ℕ) → n + 1 ≤ k → get_or ls k 0 ≡ 0
+          behind k h =
+              ap (λ (j : ℕ). get_or ls j 0) (let s : k ≡ n + 1 + (k - (n + 1)) = omega arith in s)
+              ∙ sym (get_or-drop (n + 1) ls (k - (n + 1)) 0)
+              ∙ ends_there r (drop (suc n) ps) (drop (n + 1) ls) a (goes_on_at r ps n) place.1 some
+              (sym (takes.on (kept_there some)) ∙ off) (k - (n + 1))

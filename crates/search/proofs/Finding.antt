@@ -1,12 +1,11 @@
 -- The end of the search: the coded block's price against the empty one's, both over the whole block's D, of which what
 -- is kept is a part. Where no block with a nonzero level is there its price is past every other, and no sum passes
--- 2^64. Assumes nothing.
+-- 2^64.
 use mathlib.Core.Path.{◌≡◌, refl, sym, ap, subst, ◌∙◌}
 use mathlib.Core.Bool.{true, false}
 use mathlib.Core.List.{List}
 use Prim.Native.Nat.{ℕ, ◌+◌, ◌-◌, ◌*◌, ◌^◌, ◌≤◌, ◌<◌}
 use native.Mathlib.Omega.{arith}
-use lib.ListN.{length}
 use borrow.Author.Tests.{lt-ltb, le-ltb}
 use Rattle.scan.specs.Scan.{scan_at}
 use Rattle.price.specs.Rule.{Rule}
@@ -14,15 +13,15 @@ use Rattle.price.specs.Price.{uncoded, price}
 use Rattle.price.specs.Cheapest.{cheapest}
 use Rattle.price.specs.Inner.Search.{Least, none, some, plus, under, lesser, ahead, coded_price, empty_price, is_coded}
 use Rattle.price.specs.Inner.Search.{found}
-use Rattle.price.specs.Inner.Search.{found_price, read_off}
+use Rattle.price.specs.Inner.Search.{found_price}
 use Rattle.price.proofs.Search.{found_is_cheapest, found_price_lem}
-use Rattle.scaling.specs.declared.scale.Scale.{Scale}
 use Rattle.weights.specs.declared.prices.Prices.{Prices}
+use Rattle.weights.specs.declared.kept.Kept.{Kept}
 use Rattle.weights.specs.Inner.Prices.{rule_by}
-use Rattle.weights.specs.Inner.Places.{kept_places, Standing}
-use Rattle.weights.specs.Inner.Choosing.{Choosable, ChosenBy}
+use Rattle.weights.specs.Inner.Places.{Standing}
+use Rattle.weights.specs.Inner.Chosen.{rule_of, places_of, Blank, ChosenBy}
 use Rattle.ahead.specs.declared.Ahead.{Ahead}
-use Rattle.passes.specs.Inner.Passes.{Holds, Known}
+use Rattle.passes.specs.Inner.Passes.{Holds, Known, ReadOff}
 use Rattle.passes.proofs.Reading.{empty_at}
 
 -- ---- two prices: x is the least one of a coded block but for its flag c, e that of the empty one, d what both have
@@ -42,24 +41,31 @@ least_small : (n v : ℕ) (x : Least) → Holds n x v → n ≤ 4096 → v ≤ 2
 least_small n v none h l = omega (arith, h.1)
 least_small n v (some x) h l = omega (arith, h.0, h.1)
 
-module _ (p : Prices) (g : Scale) (d width height : ℕ) (kept held levels : List ℕ) (count : ℕ)
-    (c : Choosable p g d width height kept held levels count) (t : Ahead)
-    (known : Known p g width height kept 0 t) where
+module _ (k : Kept) (t : Ahead) (known : Known k 0 t) where
+  abbrev p : Prices
+  p = k.weights.prices
+
+  abbrev d : ℕ
+  d = k.d
+
+  abbrev area : ℕ
+  area = k.scan.w * k.scan.h
+
   abbrev r : Rule
-  r = rule_by p g
+  r = rule_of k
 
   abbrev ps : List ℕ
-  ps = kept_places g width height kept
+  ps = places_of k
 
   abbrev coded : ℕ
   coded = d - t.rest + t.level + p.coded
 
   within : t.rest ≤ d
-  within = omega (arith, known.rest, c.left)
+  within = omega (arith, known.rest, k.choosable.left)
 
   pub level_small : t.level ≤ 2 ^ 63 + 2 ^ 60
   level_small =
-      least_small (width * height - 0) t.level (ahead r ps).after_level known.level (omega (arith, c.scan.few))
+      least_small (area - 0) t.level (ahead r ps).after_level known.level (omega (arith, k.scan.scanned.few))
 
   whole : d - t.rest + (uncoded r ps + p.empty) ≡ d + p.empty
   whole = omega (arith, within, known.rest)
@@ -75,31 +81,32 @@ module _ (p : Prices) (g : Scale) (d width height : ℕ) (kept held levels : Lis
       omega (arith, v, within, known.rest)
 
   pub found_coded : coded < d + p.empty → (after : List ℕ)
-      → (length after ≡ width * height) × Standing width height after (read_off r false ps)
-      → ChosenBy cheapest p g d width height kept after coded
+      → ReadOff k after
+      → ChosenBy cheapest k after coded
   unfolding found found_price is_coded coded_price empty_price lesser rule_by
   found_coded l after s =
       let q =
-      price_coded (width * height - 0) (d - t.rest) p.coded (uncoded r ps + p.empty) t.level
+      price_coded (area - 0) (d - t.rest) p.coded (uncoded r ps + p.empty) t.level
       (ahead r ps).after_level known.level
-      (omega (arith, whole, c.small, c.weighable.modest.empty)) (omega (arith, whole)) in
+      (omega (arith, whole, k.choosable.small, p.modest.empty)) (omega (arith, whole)) in
       record {
-        room = s.0;
-        levels = subst (Standing width height after) (found_is_cheapest r ps) (rw q.0 s.1);
+        room = s.room;
+        levels = subst (Standing k.scan.w k.scan.h after) (found_is_cheapest r ps) (rw q.0 s.levels);
         price = whole_price coded (q.1 ∙ rw q.0);
       }
 
-  pub found_empty : d + p.empty ≤ coded → ChosenBy cheapest p g d width height kept levels (d + p.empty)
+  pub found_empty : d + p.empty ≤ coded → (levels : List ℕ) → Blank k levels
+      → ChosenBy cheapest k levels (d + p.empty)
   unfolding found found_price is_coded coded_price empty_price lesser plus rule_by
-  found_empty l =
+  found_empty l levels blank =
       let q =
-      price_empty (width * height - 0) (d - t.rest) p.coded (uncoded r ps + p.empty) t.level
+      price_empty (area - 0) (d - t.rest) p.coded (uncoded r ps + p.empty) t.level
       (ahead r ps).after_level known.level
       (omega (arith, whole)) in
       record {
-        room = c.room;
+        room = blank.room;
         levels =
-            subst (Standing width height levels) (found_is_cheapest r ps)
-            (rw q (λ k i. c.cleared (scan_at width height k) ∙ sym (empty_at ps k)));
+            subst (Standing k.scan.w k.scan.h levels) (found_is_cheapest r ps)
+            (rw q (λ n i. blank.cleared (scan_at k.scan.w k.scan.h n) ∙ sym (empty_at ps n)));
         price = whole_price (d + p.empty) (rw q (ap some (sym whole)));
       }

@@ -1,39 +1,42 @@
--- `passes::read_off` meets its contract: each puts what is chosen at its place, until one is the last.
-use mathlib.Core.Path.{◌≡◌, sym, ap, ◌∙◌}
+-- Each turn puts what its place takes, until one is the last.
+use mathlib.Core.Path.{ap, ◌∙◌}
 use Prim.Native.Nat.{ℕ}
+use native.Mathlib.Omega.{arith}
+use Rattle.std.proofs.lemmas.Bool.{not-true, not-false}
 use lib.ListN.{set}
 use Rattle.scan.specs.Scan.{scan_at}
-use Rattle.passes.proofs.Reading.{chosen, chosen_zero, chosen_level, begun, reads, read}
+use Rattle.weights.proofs.Places.{some_kept}
+use Rattle.passes.proofs.Reading.{begun, goes_further, stops, read}
 use Rattle.passes.proofs.read_off.Goals as goal
-use Rattle.passes.proofs.read_off.Goals.{then-prev-eq0, else-prev-eq0}
+use Rattle.passes.proofs.read_off.Goals.{else-a-ne0-via-then-a-ne0+else-not-here, else-a-ne0-via-else-a-ne0}
 
 pub loop-n-init : goal.loop-n-init
-loop-n-init c =
-    begun c.args.w c.args.h c.args.end _ _ _ c.args.scan.now c.requires.0 c.args.levels.now
-    c.requires.2
-    c.requires.3
+loop-n-init c = begun _ _ c.requires.3
+
+pub returns-then-not-here : goal.returns-then-not-here
+returns-then-not-here c =
+    let k = c.args.kept in
+    let n = c.loop-n.n in
+    stops k c.args.end c.requires.0 _ _ n c.loop-n.invariant c.loop-n-test.true _
+    (c.requires.2 n (omega arith) c.loop-n-test.true) _ c.after-a.ensures _
+    (c.put.ensures ∙ ap (λ (p : ℕ). set c.loop-n.levels p c.after-a.result)
+    (c.block_place.ensures.0 ∙ ap (scan_at k.scan.w k.scan.h) c.scan_place.ensures.0))
+    (some_kept _ c.if-a-ne0.true) (not-true _ c.if-not-here.true)
 
 pub loop-n-preserved : goal.loop-n-preserved
 loop-n-preserved c =
-    let l = c.loop-n in
-    let level_is : c.if-prev-eq0.a ≡ chosen c.args.after_zero.now c.args.after_level.now l.prev l.n =
-    elim c.if-prev-eq0.branch [
-      | then-prev-eq0 w ↦
-          w.a-is ∙ sym (chosen_zero c.args.after_zero.now c.args.after_level.now l.prev l.n w.if-prev-eq0.true)
-      | else-prev-eq0 w ↦
-          w.a-is ∙ sym (chosen_level c.args.after_zero.now c.args.after_level.now l.prev l.n w.if-prev-eq0.false)
-    ] in
-    let put : c.put_magnitude.new.magnitudes ≡ set l.levels (scan_at c.args.w c.args.h l.n) c.if-prev-eq0.a =
-    c.put_magnitude.ensures
-    ∙ ap (λ (k : ℕ). set l.levels k c.if-prev-eq0.a)
-    (c.block_place.ensures.0 ∙ ap (scan_at c.args.w c.args.h) c.scan_place.ensures.0) in
-    rw (put, c.stop_with-stop.ensures)
-    (reads c.args.w c.args.h c.args.end _ _ _ c.args.scan.now c.requires.0 l.levels l.stop l.prev l.n l.invariant
-    c.loop-n-test.true c.if-prev-eq0.a level_is)
+    let k = c.args.kept in
+    let n = c.loop-n.n in
+    goes_further k c.args.end c.requires.0 _ _ n c.loop-n.invariant c.loop-n-test.true _
+    (c.requires.2 n (omega arith) c.loop-n-test.true) _ c.after-a.ensures _
+    (c.put.ensures ∙ ap (λ (p : ℕ). set c.loop-n.levels p c.after-a.result)
+    (c.block_place.ensures.0 ∙ ap (scan_at k.scan.w k.scan.h) c.scan_place.ensures.0))
+    (λ some.
+    elim c.else-a-ne0.branch [
+      | else-a-ne0-via-then-a-ne0+else-not-here w ↦ not-false _ w.if-not-here.false
+      | else-a-ne0-via-else-a-ne0 w ↦ absurd (omega (arith, w.if-a-ne0.false))
+    ])
 
 pub returns : goal.returns
 returns c =
-    let l = c.loop-n in
-    read c.args.w c.args.h c.args.end _ _ _ c.args.scan.now c.requires.0 l.levels l.stop l.prev
-    l.n
-    l.invariant c.loop-n-test.false
+    read _ c.args.end c.requires.0 _ _ c.loop-n.n (omega (arith, c.loop-n-test.false)) c.loop-n.invariant
