@@ -1,8 +1,8 @@
 -- The best of a set: none of the set has a smaller value, and at equal value none comes before it in an order. The
 -- walk's cut and the cheapest block of all are both such, since each is the first of least value in a list that stands
 -- in order.
--- Assumes nothing.
-use Rattle.std.proofs.Common.{◌≡◌, ℕ, ◌≤◌, Bool, true, false, cond, ltb, ◌⊎◌, List, [], ◌∷◌, refl, inl, inr, ⊎_elim, arith, ltb-false, ltb-true}
+use Rattle.std.proofs.Common.{◌≡◌, ℕ, ◌≤◌, Bool, true, false, cond, ltb, ◌⊎◌, List, [], ◌∷◌, refl, inl, inr}
+use Rattle.std.proofs.Common.{⊎_elim, arith, ltb-false, ltb-true}
 use Rattle.price.specs.Walk.{cheaper, first_least}
 
 -- R says which comes first

@@ -1,8 +1,8 @@
 -- All blocks over the places: those whose magnitudes are each allowed at their place. The list of specs/Cheapest.antt
 -- holds these and no others, in dictionary order, so the first of least price in it is the first of least price in that
 -- order.
--- Assumes nothing.
-use Rattle.std.proofs.Common.{◌≡◌, ℕ, zero, suc, ◌<◌, ◌⊎◌, List, [], ◌∷◌, ◌++◌, map, length, get_or, sym, refl, ap, inl, inr, ⊎_elim, arith}
+use Rattle.std.proofs.Common.{◌≡◌, ℕ, zero, suc, ◌<◌, ◌⊎◌, List, [], ◌∷◌, ◌++◌, map, length, get_or, sym}
+use Rattle.std.proofs.Common.{refl, ap, inl, inr, ⊎_elim, arith}
 use Rattle.price.specs.Rule.{Rule, Allowed}
 use Rattle.price.specs.Cheapest.{allowed, fronted, blocks, empty_block}
 use Rattle.price.proofs.Best.{In, Ordered}

@@ -1,8 +1,9 @@
 -- How large the running totals become, so that code can hold them: a step adds at most what a 0 costs there and one
 -- more flag, what is left of D stays in the total, and the best price only falls. The price written is at most the
 -- empty block's, and the squared error at most the price. D is at most what its largest place has, at every place.
--- Assumes nothing.
-use Rattle.std.proofs.Common.{◌≡◌, ℕ, zero, suc, ◌+◌, ◌-◌, ◌*◌, ◌<◌, ◌≤◌, Bool, true, false, cond, not, ◌&&◌, ltb, List, [], ◌∷◌, length, get_or, take, drop, refl, ap, inl, suc-mul, arith, ltb-true}
+use Rattle.std.proofs.Common.{◌≡◌, ℕ, zero, suc, ◌+◌, ◌-◌, ◌*◌, ◌<◌, ◌≤◌, Bool, true, false, cond, not, ◌&&◌}
+use Rattle.std.proofs.Common.{ltb, List, [], ◌∷◌, length, get_or, take, drop, refl, ap, inl, suc-mul, arith}
+use Rattle.std.proofs.Common.{ltb-true}
 use Rattle.integers.specs.Sum.{over, on_ℕ}
 use Rattle.integers.proofs.Sums.{nats}
 use Rattle.integers.proofs.Over.{over_places}

@@ -1,5 +1,5 @@
 -- The cheapest block, over prices small enough to add up by hand: at each tie the first in dictionary order, and once a
--- block that is cheaper than the walk's. Assumes nothing.
+-- block that is cheaper than the walk's.
 use Rattle.std.proofs.Common.{◌≡◌, ℕ, zero, suc, ◌+◌, ◌-◌, ◌*◌, Bool, cond, ltb, List, [], ◌∷◌, refl}
 use Rattle.price.specs.Rule.{Rule}
 use Rattle.price.specs.Price.{price}

@@ -1,7 +1,6 @@
 -- What the cheapest block of all is: its magnitudes are allowed, no block whose magnitudes are allowed is cheaper, and
 -- of those as cheap it is the first in dictionary order. These leave one block only. It is never dearer than the
 -- walk's.
--- Assumes nothing.
 use Rattle.std.proofs.Common.{◌≡◌, ℕ, ◌<◌, ◌≤◌, List, ◌∷◌, length, get_or, inl, inr}
 use Rattle.price.specs.Rule.{Rule, Allowed}
 use Rattle.price.specs.Price.{price}

@@ -1,7 +1,8 @@
 -- The walk's choice at a place: it is allowed, none that is allowed costs less, and at a tie 0 goes before m, and m
 -- before m - 1. These three leave one magnitude only, so the magnitudes walked are the only ones chosen like that.
--- Assumes nothing.
-use Rattle.std.proofs.Common.{◌≡◌, ℕ, zero, suc, ◌+◌, ◌-◌, ◌<◌, ◌≤◌, Bool, true, false, cond, ltb, ◌⊎◌, List, [], ◌∷◌, length, get_or, sym, refl, ap, ◌∙◌, subst, inl, inr, ⊎_elim, arith, ltb-false, ltb-true, le-ltb, lt-ltb}
+use Rattle.std.proofs.Common.{◌≡◌, ℕ, zero, suc, ◌+◌, ◌-◌, ◌<◌, ◌≤◌, Bool, true, false, cond, ltb, ◌⊎◌, List}
+use Rattle.std.proofs.Common.{[], ◌∷◌, length, get_or, sym, refl, ap, ◌∙◌, subst, inl, inr, ⊎_elim, arith}
+use Rattle.std.proofs.Common.{ltb-false, ltb-true, le-ltb, lt-ltb}
 use Rattle.integers.proofs.Order.{below_or_not}
 use Rattle.price.specs.Rule.{Rule, Allowed, is_zero, cost}
 use Rattle.price.specs.Walk.{cheaper, first_least, chosen, walked, zero_before}
@@ -112,7 +113,8 @@ length_walked r z (p ∷ ps) = ap suc (length_walked r (is_zero (chosen r z p)) 
 abbrev pub CheapestAt : Rule → Bool → List ℕ → List ℕ → ℕ → Type 0
 CheapestAt r z ls ps k = let p = get_or ps k 0 in Cheapest (cost r (zero_before z ls k) p) (r.top p) (get_or ls k 0)
 
-before_in_tail : (z : Bool) (a : ℕ) (ls : List ℕ) (k : ℕ) → zero_before z (a ∷ ls) (suc k) ≡ zero_before (is_zero a) ls k
+before_in_tail : (z : Bool) (a : ℕ) (ls : List ℕ) (k : ℕ)
+    → zero_before z (a ∷ ls) (suc k) ≡ zero_before (is_zero a) ls k
 before_in_tail z a ls zero = refl
 before_in_tail z a ls (suc k) = refl
 

@@ -1,5 +1,7 @@
--- How many numbers of a list are not 0: by sums, from the front, from behind, and where none is left. Assumes nothing.
-use Rattle.std.proofs.Common.{◌≡◌, ℕ, zero, suc, ◌+◌, ◌<◌, ◌≤◌, cond, List, [], ◌∷◌, ◌++◌, length, get_or, take, drop, set, refl, ◌∙◌, add-one, arith, length-drop, drop-cons, take-suc-set}
+-- How many numbers of a list are not 0: by sums, from the front, from behind, and where none is left.
+use Rattle.std.proofs.Common.{◌≡◌, ℕ, zero, suc, ◌+◌, ◌<◌, ◌≤◌, cond, List, [], ◌∷◌, ◌++◌, length, get_or}
+use Rattle.std.proofs.Common.{take, drop, set, refl, ◌∙◌, add-one, arith, length-drop, drop-cons}
+use Rattle.std.proofs.Common.{take-suc-set}
 use Rattle.integers.specs.Sum.{over, on_ℕ}
 use Rattle.price.specs.Rule.{is_zero}
 use Rattle.price.specs.Price.{nonzeros}

@@ -1,7 +1,7 @@
 -- The cut taken: it may be made, no cut that may be made is cheaper, and none before it is as cheap. These leave one
 -- cut only. The cuts that may be made are listed from the first to the last; nothing is asked of a price.
--- Assumes nothing.
-use Rattle.std.proofs.Common.{◌≡◌, ℕ, zero, suc, ◌+◌, ◌<◌, ◌≤◌, Bool, true, false, ltb, List, [], ◌∷◌, get_or, sym, refl, subst, inl, inr, arith, ltb-false, ltb-true}
+use Rattle.std.proofs.Common.{◌≡◌, ℕ, zero, suc, ◌+◌, ◌<◌, ◌≤◌, Bool, true, false, ltb, List, [], ◌∷◌, get_or}
+use Rattle.std.proofs.Common.{sym, refl, subst, inl, inr, arith, ltb-false, ltb-true}
 use Rattle.price.specs.Rule.{Rule}
 use Rattle.price.specs.Price.{price}
 use Rattle.price.specs.Walk.{walked, cut_at, Cut, ends, cut_of}

@@ -1,6 +1,7 @@
 -- Dictionary order of lists of one length: of the blocks as cheap as each other the first in it is taken. Assumes
 -- nothing.
-use Rattle.std.proofs.Common.{◌≡◌, ℕ, ◌<◌, ◌≤◌, Bool, true, false, ltb, List, [], ◌∷◌, refl, ◌∙◌, arith, ltb-false, ltb-true}
+use Rattle.std.proofs.Common.{◌≡◌, ℕ, ◌<◌, ◌≤◌, Bool, true, false, ltb, List, [], ◌∷◌, refl, ◌∙◌, arith}
+use Rattle.std.proofs.Common.{ltb-false, ltb-true}
 use Rattle.price.proofs.Best.{Order}
 
 pub data Before : List ℕ → List ℕ → Type 0 where

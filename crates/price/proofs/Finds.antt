@@ -1,8 +1,8 @@
 -- What a search may hold of a set of blocks, if any is in it: the least value, and the first block in dictionary order
 -- that has it. The laws by which it is held of a larger set: of two sets, at one more price, and with one more
 -- magnitude in front.
--- Assumes nothing.
-use Rattle.std.proofs.Common.{◌≡◌, ℕ, ◌+◌, ◌<◌, ◌≤◌, Bool, true, false, cond, ltb, ◌⊎◌, List, ◌∷◌, refl, inl, inr, ⊎_elim, arith, ltb-false, ltb-true}
+use Rattle.std.proofs.Common.{◌≡◌, ℕ, ◌+◌, ◌<◌, ◌≤◌, Bool, true, false, cond, ltb, ◌⊎◌, List, ◌∷◌, refl, inl}
+use Rattle.std.proofs.Common.{inr, ⊎_elim, arith, ltb-false, ltb-true}
 use Rattle.price.specs.Inner.Search.{Least, none, some, plus, under, lesser}
 use Rattle.price.proofs.Best.{Wins, Best, best_of_same}
 use Rattle.price.proofs.Dictionary.{Before, before_led}

@@ -1,30 +1,23 @@
 -- Lambda's whole number is what the paper says in two ways: the fraction of the sum dropped, and the greatest whole
 -- number from 0 to 2^28 that isn't above the sum. An accepted d is from 0 to 8192, so the sum is from 1/2 to 2^28 +
--- 1/2, and no end of u64 cuts it. Assumes nothing.
-use Rattle.std.proofs.Common.{◌≡◌, ℕ, ◌+◌, ◌-◌, ◌*◌, ◌/◌, ◌^◌, ◌<◌, ◌≤◌, min, Bool, true, false, cond, not, ◌&&◌, ◌||◌, T, eqb, ltb, pos, negsuc, sym, refl, ap, ◌∙◌, subst, ⊎_elim, true≢false, le_trans, le_of_eq, le_refl, le_of_lt, lt_irrefl, mul-le-mul_right, eq-zero-or-pos, le_antisymm, mul-pos, le-div_iff_mul-le, zero-mul, mul-one, mul_right_comm, not-le_of_lt, le_of_mul-le-mul_right, arith, lit<, lit≤, eqb→eq, ltb→lt, lt→ltb, nltb→le}
+-- 1/2, and no end of u64 cuts it.
+use Rattle.std.proofs.Common.{◌≡◌, ℕ, ◌+◌, ◌-◌, ◌*◌, ◌/◌, ◌^◌, ◌<◌, ◌≤◌, min, Bool, true, false, cond, not}
+use Rattle.std.proofs.Common.{◌&&◌, ◌||◌, T, eqb, ltb, pos, negsuc, sym, refl, ap, ◌∙◌, subst, ⊎_elim}
+use Rattle.std.proofs.Common.{true≢false, le_trans, le_of_eq, le_refl, le_of_lt, lt_irrefl, mul-le-mul_right}
+use Rattle.std.proofs.Common.{eq-zero-or-pos, le_antisymm, mul-pos, le-div_iff_mul-le, zero-mul, mul-one}
+use Rattle.std.proofs.Common.{mul_right_comm, not-le_of_lt, le_of_mul-le-mul_right, arith, lit<, lit≤, eqb→eq}
+use Rattle.std.proofs.Common.{ltb→lt, lt→ltb, nltb→le}
 use mathlib.Core.Bool.{false≢true}
 use mir.Facts.{or_yes, or_no}
-use lib.Dec.{eqb_refl, not_T}
-use lib.Ieee.{Float, nan, inf, fin, binary64, low, up, down, is_nan, lt, le, ne, add, mul, round, sum, of_int, to_unsigned}
+use lib.Dec.{not_T}
+use lib.Ieee.{Float, nan, inf, fin, binary64, low, up, down, lt, le, add, mul, round, sum, of_int, to_unsigned}
 use lib.Ieee.Fits.{up_pos, down_pos, and_l}
-use lib.Ieee.Bits.{is_true, is_false}
+use lib.Ieee.Bits.{is_false}
 use lib.Ieee.Exact.{HasValue, round_exact}
 use lib.Ieee.Order.{transfer, round_mono}
 use lib.Ieee.Back.{round_whole}
 use lib.Ieee.Positive.{positive, num, den, between, le→cross}
 use Rattle.price.specs.Lambda.{none, most, scale, half, lambda_refused, lambda_sum, lambda_of, Greatest}
-
--- ---- the code's test for a NaN
-itself : (k : ℕ) → not (eqb k k && true) ≡ false
-itself k = rw (is_true (eqb k k) (eqb_refl k))
-
-pub nan_test : (x : Float) → ne x x ≡ is_nan x
-unfolding ne is_nan
-nan_test nan = refl
-nan_test (inf true) = refl
-nan_test (inf false) = refl
-nan_test (fin true m e) = itself (m * up e * down e)
-nan_test (fin false m e) = itself (m * up e * down e)
 
 -- ---- an accepted d is from 0 to 8192
 -- x is at most a, and at least 0, where -0 counts

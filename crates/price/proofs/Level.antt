@@ -1,7 +1,8 @@
 -- Laws of one coefficient's numbers: a level has its magnitude and its coefficient's sign; a distortion without
 -- integers, as code works it out; and how large the error of magnitude 0 can be.
--- Assumes nothing.
-use Rattle.std.proofs.Common.{◌≡◌, ℕ, zero, suc, ◌+◌, ◌-◌, ◌*◌, ◌/◌, ◌^◌, ◌<◌, ◌≤◌, ◌⊎◌, ℤ, pos, negsuc, nat_abs, refl, ap, ◌∙◌, inl, inr, mul_assoc, mul-le-mul, mul-le-mul_left, add-one, arith, pow-add, le-ltb, lt-ltb}
+use Rattle.std.proofs.Common.{◌≡◌, ℕ, zero, suc, ◌+◌, ◌-◌, ◌*◌, ◌/◌, ◌^◌, ◌<◌, ◌≤◌, ◌⊎◌, ℤ, pos, negsuc}
+use Rattle.std.proofs.Common.{nat_abs, refl, ap, ◌∙◌, inl, inr, mul_assoc, mul-le-mul, mul-le-mul_left}
+use Rattle.std.proofs.Common.{add-one, arith, pow-add, le-ltb, lt-ltb}
 use native.Mathlib.Nat.{mul-div-le, div-le_of_le-mul}
 use lib.Signed.{non_neg}
 use Rattle.integers.proofs.Magnitude.{magnitude_neg}

@@ -1,6 +1,7 @@
 pub mod Lambda
 pub mod Level
 pub mod Rates
+pub mod Dear
 pub mod Best
 pub mod Choice
 pub mod Price

@@ -1,7 +1,7 @@
 -- Places at which m is 0 may be taken for others at which it is 0: every block's price changes by the same, so the
 -- block that is walked and cut stays the same, and so does the cheapest. Code keeps nothing of such places.
--- Assumes nothing.
-use Rattle.std.proofs.Common.{◌≡◌, ℕ, ◌+◌, Bool, true, false, cond, ◌⊎◌, List, [], ◌∷◌, sym, refl, ap, ◌∙◌, subst, inl, inr, arith}
+use Rattle.std.proofs.Common.{◌≡◌, ℕ, ◌+◌, Bool, true, false, cond, ◌⊎◌, List, [], ◌∷◌, sym, refl, ap, ◌∙◌}
+use Rattle.std.proofs.Common.{subst, inl, inr, arith}
 use Rattle.price.specs.Rule.{Rule, Allowed, is_zero, cost}
 use Rattle.price.specs.Price.{uncoded, all_zero, price}
 use Rattle.price.specs.Walk.{first_least, chosen, walked, cut_at, ends, cut_of, written}

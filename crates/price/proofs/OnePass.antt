@@ -1,7 +1,7 @@
 -- One pass over the places with the running totals finds the cut of specs/Walk.antt and its price: code that keeps four
 -- numbers does what the definition says of all cuts. The proof goes from place to place with what is spent so far, c.
--- Assumes nothing.
-use Rattle.std.proofs.Common.{◌≡◌, ℕ, zero, suc, ◌+◌, ◌-◌, ◌<◌, ◌≤◌, Bool, true, false, cond, ltb, List, [], ◌∷◌, length, get_or, take, refl, ap, ◌∙◌, arith}
+use Rattle.std.proofs.Common.{◌≡◌, ℕ, zero, suc, ◌+◌, ◌-◌, ◌<◌, ◌≤◌, Bool, true, false, cond, ltb, List, []}
+use Rattle.std.proofs.Common.{◌∷◌, length, get_or, take, refl, ap, ◌∙◌, arith}
 use Rattle.price.specs.Rule.{Rule, is_zero, cost}
 use Rattle.price.specs.Price.{uncoded, price}
 use Rattle.price.specs.Walk.{first_least, chosen, walked, cut_at, ends, cut_of, written}

@@ -1,8 +1,8 @@
 -- The price by recursion over the places, which is how proofs go along a block, and that it is the price of
 -- specs/Price.antt wherever there is a level for each place. Then the price of a cut, from its first place to the later
 -- ones.
--- Assumes nothing.
-use Rattle.std.proofs.Common.{◌≡◌, ℕ, zero, suc, ◌+◌, ◌*◌, ◌<◌, Bool, false, cond, List, [], ◌∷◌, map, length, get_or, take, drop, refl, ap, ◌∙◌, suc-mul, arith}
+use Rattle.std.proofs.Common.{◌≡◌, ℕ, zero, suc, ◌+◌, ◌*◌, ◌<◌, Bool, false, cond, List, [], ◌∷◌, map, length}
+use Rattle.std.proofs.Common.{get_or, take, drop, refl, ap, ◌∙◌, suc-mul, arith}
 use Rattle.price.specs.Rule.{Rule, is_zero, cost}
 use Rattle.price.specs.Price.{uncoded, costs, nonzeros, in_front, size, all_zero, price}
 use Rattle.price.specs.Walk.{cut_at}
@@ -18,7 +18,8 @@ rest r z (a ∷ ls) (p ∷ ps) =
 -- the same in the words of the price, for a last nonzero level at place n
 abbrev Worded : Rule → Bool → List ℕ → List ℕ → ℕ → Type 0
 Worded r z ls ps n =
-    rest r z ls ps ≡ costs r z (take (suc n) ls) ps + uncoded r (drop (suc n) ps) + nonzeros (take n ls) * r.more + r.last
+    rest r z ls ps
+    ≡ costs r z (take (suc n) ls) ps + uncoded r (drop (suc n) ps) + nonzeros (take n ls) * r.more + r.last
 
 flags : (r : Rule) (a : ℕ) (ls : List ℕ) (n : ℕ)
     → nonzeros (take (suc n) (a ∷ ls)) * r.more ≡ flag r a + nonzeros (take n ls) * r.more

@@ -1,7 +1,8 @@
 -- Demand 3, of the definitions of specs/: what each magnitude walked and written is, that the block written is the
 -- cheapest of the walk's cuts, the earliest at a tie, and that this leaves no second outcome. That one pass finds it,
--- and reports its price, is in proofs/OnePass.antt. Assumes nothing.
-use Rattle.std.proofs.Common.{◌≡◌, ℕ, zero, suc, ◌<◌, ◌≤◌, Bool, true, false, ltb, ◌⊎◌, List, [], ◌∷◌, length, get_or, refl, ◌∙◌, inl, inr, ⊎_elim, arith, ltb-false, ltb-true}
+-- and reports its price, is in proofs/OnePass.antt.
+use Rattle.std.proofs.Common.{◌≡◌, ℕ, zero, suc, ◌<◌, ◌≤◌, Bool, true, false, ltb, ◌⊎◌, List, [], ◌∷◌, length}
+use Rattle.std.proofs.Common.{get_or, refl, ◌∙◌, inl, inr, ⊎_elim, arith, ltb-false, ltb-true}
 use Rattle.price.specs.Rule.{Rule, Allowed}
 use Rattle.price.specs.Price.{nonzeros, price}
 use Rattle.price.specs.Walk.{walked, cut_at, Cut, cut_of, written}

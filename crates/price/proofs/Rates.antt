@@ -1,12 +1,15 @@
 -- What accepted cost tables have: every entry is in range, and so a rate is at most one largest entry for each unit of
 -- the magnitude and two more. Later bounds of prices rest on it.
--- Assumes nothing.
-use Rattle.std.proofs.Common.{◌≡◌, ℕ, zero, suc, ◌+◌, ◌-◌, ◌*◌, ◌≤◌, Bool, false, ◌||◌, List, [], ◌∷◌, length, get_or, take, drop, sym, refl, ap, ◌∙◌, zero-le, mul-le-mul_left, arith, drop-cons, ltb-false}
+use Rattle.std.proofs.Common.{◌≡◌, ℕ, zero, suc, ◌+◌, ◌-◌, ◌*◌, ◌≤◌, Bool, false, ◌||◌, List, [], ◌∷◌, length}
+use Rattle.std.proofs.Common.{get_or, take, drop, sym, refl, ap, ◌∙◌, zero-le, mul-le-mul_left, arith}
+use Rattle.std.proofs.Common.{drop-cons, le-ltb, ltb-false}
 use Rattle.integers.specs.Sum.{over, on_or}
 use Rattle.integers.specs.Tests.{some, listed}
 use Rattle.integers.proofs.Over.{tests, some_over, over_part, over_end}
 use Rattle.integers.proofs.Tests.{neither}
+use Rattle.integers.proofs.Lists.{passed_by_none}
 use Rattle.price.specs.declared.Costs.{Costs}
+use Rattle.price.specs.Inner.Bits.{NoneAbove}
 use Rattle.price.specs.Costs.{four_at, eight_at, costs_of, dear, cost_refused, InRange, Rows, run_row, rate}
 
 none_dear : (table : List ℕ) → some dear table ≡ false → (k : ℕ) → get_or table k 0 ≤ 1048576
@@ -16,7 +19,7 @@ none_dear (x ∷ xs) e zero = ltb-false 1048576 x (neither (dear x) (some dear x
 none_dear (x ∷ xs) e (suc k) = none_dear xs (neither (dear x) (some dear xs) e).1 k
 
 -- a stretch of a list, entry by entry
-part_listed : (n i : ℕ) (l : List ℕ) → i + n ≤ length l → take n (drop i l) ≡ listed (λ k. get_or l k 0) i n
+pub part_listed : (n i : ℕ) (l : List ℕ) → i + n ≤ length l → take n (drop i l) ≡ listed (λ k. get_or l k 0) i n
 unfolding listed
 part_listed zero i l h = refl
 part_listed (suc n) i l h =
@@ -45,6 +48,13 @@ dear_in_all l h =
     ∙ ap (λ (t : Bool). last || t) (part 20 8 (omega arith)
     ∙ over_end tests dear l 28 cbf (omega arith))))
     ∙ sym (tests.assoc (run || level) last cbf ∙ tests.assoc run level (last || cbf))
+
+-- and none is, where nothing above the limit bounds the 28
+pub refused_by_none : (l : List ℕ) (most : ℕ) → length l ≡ 28 → NoneAbove most l → most ≤ 1048576
+    → cost_refused (costs_of l) ≡ false
+refused_by_none l most long none h =
+    sym (dear_in_all l long)
+    ∙ passed_by_none 0 dear l (λ k lt. le-ltb 1048576 (get_or l k 0) (omega (arith, none k lt)))
 
 pub costs_in_range : {t : Costs} → cost_refused t ≡ false → InRange t
 unfolding cost_refused

@@ -1,7 +1,8 @@
 -- The search finds the cheapest block of all, and its price. Along the places, from the last to the first, and in both
 -- states: what it holds is the least that is still to be paid by a block with a nonzero level, and what it reads off is
--- the first block in dictionary order that pays no more. Assumes nothing.
-use Rattle.std.proofs.Common.{◌≡◌, ℕ, zero, suc, ◌+◌, ◌<◌, ◌≤◌, Bool, true, false, cond, ◌⊎◌, List, [], ◌∷◌, sym, refl, ◌∙◌, subst, inl, inr, ⊎_elim, true≢false, arith}
+-- the first block in dictionary order that pays no more.
+use Rattle.std.proofs.Common.{◌≡◌, ℕ, zero, suc, ◌+◌, ◌<◌, ◌≤◌, Bool, true, false, cond, ◌⊎◌, List, [], ◌∷◌}
+use Rattle.std.proofs.Common.{sym, refl, ◌∙◌, subst, inl, inr, ⊎_elim, true≢false, arith}
 use Rattle.price.specs.Rule.{Rule, Allowed, is_zero, cost}
 use Rattle.price.specs.Price.{uncoded, in_front, size, all_zero, price}
 use Rattle.price.specs.Walk.{cheaper, first_least}

@@ -1,7 +1,7 @@
 -- Places at the end whose m is 0 change neither the best price nor the cut: a walk may stop before them, and D, which
 -- is taken over all places, is in its totals from the start.
--- Assumes nothing.
-use Rattle.std.proofs.Common.{◌≡◌, ℕ, zero, suc, ◌+◌, ◌<◌, Bool, List, [], ◌∷◌, length, get_or, take, drop, sym, refl, ap, ◌∙◌, inl, inr, arith}
+use Rattle.std.proofs.Common.{◌≡◌, ℕ, zero, suc, ◌+◌, ◌<◌, Bool, List, [], ◌∷◌, length, get_or, take, drop}
+use Rattle.std.proofs.Common.{sym, refl, ap, ◌∙◌, inl, inr, arith}
 use Rattle.price.specs.Rule.{Rule, Allowed, is_zero}
 use Rattle.price.specs.Price.{price}
 use Rattle.price.specs.Walk.{chosen, cut_of, written}

@@ -1,5 +1,4 @@
 -- Document 01's numbers and the borders beside them, computed: what a wrong reading of a definition would get wrong.
--- Assumes nothing.
 use Rattle.std.proofs.Common.{◌≡◌, ℕ, ◌+◌, ◌*◌, true, false, List, [], ◌∷◌, pos, negsuc, refl}
 use lib.Ieee.{nan, inf, fin}
 use Rattle.price.specs.Lambda.{lambda_refused, lambda_of}
