@@ -42,7 +42,8 @@ larger_reaches t q a b = ⊎_elim (λ (h : a < b). second h) (λ (h : b ≤ a). 
         let le : a ≤ b = omega arith in
         or_second (leb t (a * q)) (leb t (b * q)) (up a b le) ∙ ap (λ (m : ℕ). leb t (m * q)) (sym (max-eq_right le))
 
-pub reaches : (t q : ℕ) → 1 ≤ t → (l : List ℤ) → over on_or (λ z. leb t (scaled q z)) l ≡ leb t (over on_max nat_abs l * q)
+pub reaches : (t q : ℕ) → 1 ≤ t → (l : List ℤ)
+    → over on_or (λ z. leb t (scaled q z)) l ≡ leb t (over on_max nat_abs l * q)
 unfolding over scaled
 reaches t q h [] = sym (lt-leb t (0 * q) (omega arith))
 reaches t q h (z ∷ zs) =

@@ -32,11 +32,12 @@ module _ (z : ℤ) (a : ℕ) (f : SFits w16 z) (h : a ≤ 32767) where
   positive (pos n) t = refl
   positive (negsuc n) t = absurd (true≢false t)
 
-  pub put_minus : lt_z (to_z w16 (of_z w16 z)) (pos 0) ≡ true → to_z w16 (of_z w16 (pos 0 -ℤ to_z w16 (of_z w16 (pos a))))
-      ≡ signed z a
+  pub put_minus : lt_z (to_z w16 (of_z w16 z)) (pos 0) ≡ true
+      → to_z w16 (of_z w16 (pos 0 -ℤ to_z w16 (of_z w16 (pos a)))) ≡ signed z a
   put_minus t =
       to_z-of_z minus_fits
-      ∙ rw (to_z-of_z {w = w16} {z = pos a} fits_up, +ℤ_idl) (sym (negative z (rw (to_z-of_z {w = w16} {z = z} f) at t)))
+      ∙ rw (to_z-of_z {w = w16} {z = pos a} fits_up, +ℤ_idl)
+      (sym (negative z (rw (to_z-of_z {w = w16} {z = z} f) at t)))
 
   pub put_plus : lt_z (to_z w16 (of_z w16 z)) (pos 0) ≡ false → to_z w16 (of_z w16 (pos a)) ≡ signed z a
   put_plus t = to_z-of_z {w = w16} {z = pos a} fits_up ∙ sym (positive z (rw (to_z-of_z {w = w16} {z = z} f) at t))

@@ -92,7 +92,8 @@ module _ (width height : ℕ) (held : List ℕ) (sc : Scanned width height held)
           ∙ ap (λ (a : ℕ). signed (at block (scan_at width height k)) a) (s k h)
           ∙ ap (λ (z : ℤ). signed z (get_or ls k 0))
           (sym (map_at 0 (pos 0) (λ p. at block p) (scan width height) k (omega (arith, sc.full))))
-          ∙ sym (signs_at (in_order width height block) ls k (omega (arith, coefficients)) (omega (arith, coefficients)))
+          ∙ sym
+          (signs_at (in_order width height block) ls k (omega (arith, coefficients)) (omega (arith, coefficients)))
           ∙ sym
           (laid_on_scan width height sc.wide sc.high vs block k
           (signs_length (in_order width height block) ls (omega (arith, coefficients))

@@ -1,5 +1,6 @@
 -- What is read off the coefficients of a block, by rows, before it is coded: the largest magnitude, and D.
-use Rattle.std.specs.Prelude.{◌≡◌, cond, List, Option, is_none, IfSome, ℕ, ◌+◌, ◌*◌, ◌^◌, ◌≤◌, ◌<◌, eqb, leb, ℤ, negsuc, nat_abs}
+use Rattle.std.specs.Prelude.{◌≡◌, cond, List, Option, is_none, IfSome, ℕ, ◌+◌, ◌*◌, ◌^◌, ◌≤◌, ◌<◌, eqb, leb}
+use Rattle.std.specs.Prelude.{ℤ, negsuc, nat_abs}
 use Rattle.integers.specs.Sum.{at, over, on_max}
 use Rattle.integers.specs.Tests.{some, eq_ℤ}
 use Rattle.price.specs.Level.{scaled, distortion}

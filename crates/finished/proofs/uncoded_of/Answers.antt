@@ -15,7 +15,8 @@ loop-c-preserved c =
     let l = c.loop-c in
     let g = c.args.scale in
     let cs = c.args.cs.now in
-    let place : c.from.result * c.from-q.result ≡ get_or cs l.c-index 0 * g.q = rw (c.from.ensures, c.from-q.ensures) in (
+    let place : c.from.result * c.from-q.result ≡ get_or cs l.c-index 0 * g.q =
+    rw (c.from.ensures, c.from-q.ensures) in (
       c.add-total.ensures.1,
       held_next l.total _ _ _ _ _ (over_from on_ℕ (uncoded_at g) cs l.c-index 0 c.loop-c-test.true)
           (c.squared_below.ensures.is ∙ ap (λ (L : ℕ). distortion g.shift g.error L 0) place) c.add-total.ensures.0

@@ -9,4 +9,5 @@ use Rattle.finished.proofs.uncoded_of.Given as goal
 abbrev pub invariant-loop-c : goal.invariant-loop-c
 invariant-loop-c l =
     (l.total ≤ 2 ^ 62)
-    × (held (l.total + over on_ℕ (uncoded_at l.scale) (drop l.c-index l.cs)) ≡ held (over on_ℕ (uncoded_at l.scale) l.cs))
+    × (held (l.total + over on_ℕ (uncoded_at l.scale) (drop l.c-index l.cs))
+    ≡ held (over on_ℕ (uncoded_at l.scale) l.cs))

@@ -28,7 +28,8 @@ loop-i-preserved c =
     let l = c.loop-i in
     let z = get_or block l.i (pos 0) in
     let f : SFits w16 z = search rules in
-    let m : c.unsigned_abs-a.result ≡ nat_abs z = c.unsigned_abs-a.ensures.value ∙ ap nat_abs (to_z-of_z {w = w16} {z = z} f) in
+    let m : c.unsigned_abs-a.result ≡ nat_abs z =
+    c.unsigned_abs-a.ensures.value ∙ ap nat_abs (to_z-of_z {w = w16} {z = z} f) in
     let v = c.if-scale-a.v in
     let is : v ≡ kept_of g z = elim c.if-scale-a.branch [
       | then-scale-a w ↦ kept_yes g z _ _ m w.if-scale-a.true w.v-is

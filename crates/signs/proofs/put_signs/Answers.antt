@@ -45,5 +45,8 @@ returns c =
     let levels = c.args.levels.now in
     let l = c.loop-i in (
       signing_all c.args.block.now levels l.block l.i c.requires.0 c.loop-i-test.false l.invariant.0,
-      c.from.ensures ∙ sym (over_end nats ones levels l.i l.count c.loop-i-test.false) ∙ l.invariant.1 ∙ sym (nonzeros_over levels),
+      c.from.ensures
+          ∙ sym (over_end nats ones levels l.i l.count c.loop-i-test.false)
+          ∙ l.invariant.1
+          ∙ sym (nonzeros_over levels),
     )

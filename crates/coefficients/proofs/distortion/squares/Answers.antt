@@ -19,7 +19,8 @@ use Rattle.coefficients.proofs.distortion.squares.Goals.{After-from-x}
 use Rattle.coefficients.proofs.distortion.squares.Goals as goal
 
 -- the error of the coefficient, and its square
-error_is : (c : After-from-x) → c.from-x.result ≡ zero_error c.args.scale (nat_abs (at c.args.part.now c.loop-c.c-index))
+error_is : (c : After-from-x)
+    → c.from-x.result ≡ zero_error c.args.scale (nat_abs (at c.args.part.now c.loop-c.c-index))
 error_is c =
     let z = at c.args.part.now c.loop-c.c-index in
     let f : SFits w16 z = search rules in

@@ -17,7 +17,12 @@ product l qp q e i j = rw (i, j)
 pub overflow_sub-rest : goal.overflow_sub-rest
 overflow_sub-rest c =
     let x = error_range forward forward_usable c.args.log2_side c.args.qp c.requires.1 in
-    omega (arith, product _ _ _ _ c.scale-q.ensures c.error_scale-error.ensures, x.1, front_range c.args.log2_side c.requires.1)
+    omega (
+      arith,
+      product _ _ _ _ c.scale-q.ensures c.error_scale-error.ensures,
+      x.1,
+      front_range c.args.log2_side c.requires.1,
+    )
 
 pub overflow_cast-result-2 : goal.overflow_cast-result-2
 overflow_cast-result-2 c =
