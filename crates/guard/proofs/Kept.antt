@@ -1,6 +1,5 @@
 -- The first candidate of a block, which is what the mode writes: its price is below 2^62, so that it fits as soon as it
 -- lies within the heights, and then it is what the block keeps.
--- Assumes nothing.
 use mathlib.Core.Path.{◌≡◌, sym, ap, ◌∙◌}
 use mathlib.Core.Bool.{true, ◌&&◌}
 use mathlib.Core.List.{List}
@@ -10,6 +9,7 @@ use borrow.Author.Tests.{lt-ltb}
 use lib.Dec.{ltb}
 use lib.ListN.{length}
 use lib.IntN.{ℤ}
+use Rattle.std.specs.Prelude.{Ok}
 use Rattle.tables.specs.Scales.{back}
 use Rattle.tables.proofs.Range.{scale_range}
 use Rattle.transform.proofs.Bounds.{coefficients_long}
@@ -24,7 +24,6 @@ use Rattle.heights.specs.declared.Extremes.{Extremes}
 use Rattle.heights.specs.declared.Heights.{Heights}
 use Rattle.heights.specs.Extremes.{extremes, within}
 use Rattle.guarding.specs.declared.Guarded.{Guarded}
-use Rattle.guarding.specs.declared.GuardAnswer.TheVariants as answers
 use Rattle.guarding.specs.Block.{Guard, levels_of, price_with, extremes_with, fits, reported, guarded_levels}
 use Rattle.guarding.specs.Inner.Held.{guard_by, Guardable, guard_outcome, held_answer, Held}
 use Rattle.guarding.proofs.Fits.{mode_fits, mode_written}
@@ -43,15 +42,15 @@ module _ (g : Guard) (first : fits g (magnitudes g.call) ≡ true) where
   unfolding reported count_of price_of price_with
   first_reported = rw (mode_written g first)
 
-  first_answer : held_answer g ≡ guard_outcome (answers.Coded (reported g))
+  first_answer : held_answer g ≡ guard_outcome (Ok (reported g))
   unfolding held_answer
   first_answer = rw (mode_fits g first)
 
   first_held : (before : List ℤ) → before ≡ quantised g.call → (a : Guarded) → a ≡ reported g
-      → Held g before (answers.Coded a)
+      → Held g before (Ok a)
   first_held before e a ea =
       record {
-        answer = ap (λ (x : Guarded). guard_outcome (answers.Coded x)) ea ∙ sym first_answer;
+        answer = ap (λ (x : Guarded). guard_outcome (Ok x)) ea ∙ sym first_answer;
         left = λ b f. e ∙ sym first_levels;
       }
 
@@ -107,7 +106,7 @@ module _ {r : List ℤ} {t : Costs} {c : Coding} {h : Heights} {before shown : L
     fits_within = λ i. price_fine i && within (sym found_is i) h
 
     pub kept_within : (a : Coded) → OfMode g.call a → within e h ≡ true
-        → Held g before (answers.Coded (record {
+        → Held g before (Ok (record {
           count = a.count;
           price = a.price;
           darker = e.darker;

@@ -1,8 +1,7 @@
--- One component that is run: its transform is accepted and leaves its coefficients, so that the quantiser's call is the
--- definition's.
--- Assumes nothing.
-use mathlib.Core.Path.{◌≡◌, sym, ap, ◌∙◌, subst}
-use mathlib.Core.Bool.{true}
+-- One component: not run, it is left alone; run, its transform is accepted and leaves its coefficients, so that the
+-- quantiser's call is the definition's.
+use mathlib.Core.Path.{◌≡◌, refl, sym, ap, ◌∙◌, subst}
+use mathlib.Core.Bool.{true, false}
 use mathlib.Core.List.{List}
 use Prim.Native.Nat.{ℕ}
 use lib.IntN.{ℤ}
@@ -15,12 +14,17 @@ use Rattle.price.specs.declared.Costs.{Costs}
 use Rattle.coding.specs.declared.Coded.{Coded}
 use Rattle.coding.specs.declared.Coding.{Coding}
 use Rattle.coding.specs.Block.{called}
-use Rattle.coding.specs.Call.{quant_answer, quant_buffer}
+use Rattle.coding.specs.Call.{coded, quant_answer, quant_buffer}
 use Rattle.components.specs.declared.Request.{Request}
 use Rattle.components.specs.Call.{bit}
 use Rattle.components.proofs.Log2.{log2_inside}
 use Rattle.components.proofs.Blocks.{block_accepted, block_leaves}
 use Rattle.stretch.specs.Inner.Part.{log2_in, coding_of, quant_in, Ready, part_answer, part_left}
+
+pub not_run : (k : Component) (t : Costs) (q : Request) (r : List ℤ) → bit k q.run ≡ false
+    → (coded 0 0 ≡ part_answer k t q r) × (r ≡ part_left k t q r)
+unfolding part_answer part_left
+not_run k t q r e = rw e (refl, refl)
 
 module _ (k : Component) (t : Costs) (q : Request) (r : List ℤ) (ready : Ready k t q r)
     (run : bit k q.run ≡ true) where

@@ -1,4 +1,5 @@
-pub mod ThreeParts
-pub mod Turns
+pub mod Parts
 pub mod Passed
 pub mod Alone
+pub mod Called
+pub mod Finished

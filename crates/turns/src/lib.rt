@@ -1,66 +1,137 @@
-// The three components, each in its turn, in a room that holds the residuals of all; and how that room is filled from a
-// call's buffer and written back.
+// A call over the three components: its early tests, then each component in its turn, in a room that holds the
+// residuals of all. Nothing is written to the buffer until all three have passed. What is done to a component is its
+// coder's.
 #![tactic(auto)]
 
-ghost use Rattle.std.specs.Prelude.{◌≡◌, ◌++◌, ◌+◌, ◌/◌, ◌≤◌, length, drop};
+ghost use Rattle.std.specs.Prelude.{◌≡◌, List, ℕ, ◌+◌, ◌/◌, ◌≤◌, length, ℤ, Ok, Err};
+ghost use Rattle.refusals.specs.declared.Component.{Component};
+ghost use Rattle.refusals.specs.Faults.{Outcome, outcome_by};
+ghost use Rattle.price.specs.declared.Costs.{Costs};
 ghost use Rattle.price.specs.Costs.{costs_of};
-ghost use Rattle.components.specs.Call.{sub_block_outcome};
-ghost use Rattle.turns.specs.Inner.Parts.{AllReady, Parted, shares, answer_in, left_in};
+ghost use Rattle.components.specs.declared.Request.{Request};
+ghost use Rattle.components.specs.Call.{requested};
+ghost use Rattle.components.specs.Inner.Groups.{EarlyPassed};
+ghost use Rattle.stretch.specs.Inner.Part.{Ready};
+ghost use Rattle.refusals.specs.declared.Refused.{Refused};
+ghost use Rattle.turns.specs.Inner.Parts.{AllReady, Parted, Called};
 
-use coding::QuantAnswer;
-use components::{Request, SubBlockAnswer};
-use refusals::Component;
-use stretch::code_component;
+use admission::{luma_places, stretches_of, test_buffer, test_settings};
+use components::Request;
+use refusals::{Component, Refused, Three};
 
-pub fn copy(from: &[i16], to: &mut [i16])
-    requires { (length from.now ≡ length to.old) × (length to.old ≤ 1536) }
-    ensures { to.new ≡ from.now }
-{
-    let n = to.len();
-    let mut i = 0;
-    while i < n {
-        to[i] = from[i];
-        i += 1;
-    }
-}
+// What is done to a component that is ready: its part of the room holds its residuals, which are lent beside it, and
+// there is room for what is shown.
+pub trait Coder {
+    type Share: Copy;
 
-// The three stretches of the buffer, from the room.
-pub fn write_back(room: &[i16], buffer: &mut [i16], n: usize)
-    requires { (n ≤ 1024) × (length room.now ≡ n + n / 4 + n / 4) × (n + n / 4 + n / 4 ≤ length buffer.old) }
-    ensures { buffer.new ≡ room.now ++ drop (n + n / 4 + n / 4) buffer.old }
-{
-    let u_end = n + n / 4;
-    let end = u_end + n / 4;
-    copy(&room[0..n], &mut buffer[0..n]);
-    copy(&room[n..u_end], &mut buffer[n..u_end]);
-    copy(&room[u_end..end], &mut buffer[u_end..end]);
+    ghost wide: { ℕ };
+
+    ghost answer: { Self → Costs → Request → Component → List ℤ → Outcome Self.Share };
+
+    ghost left: { Self → Costs → Request → Component → List ℤ → List ℤ };
+
+    fn code(
+        &self,
+        part: &mut [i16],
+        residuals: &[i16],
+        shown: &mut [i16],
+        costs: &[u64; 28],
+        q: Request,
+        component: Component,
+    ) -> Result<Self::Share, Refused>
+        requires ready { Ready component (costs_of costs.now) q part.old }
+        requires given { (part.old ≡ residuals.now) × (wide ≤ length shown.old) }
+        ensures answers { outcome_by (λ a. a) result ≡ answer self.now (costs_of costs.now) q component part.old }
+        ensures leaves { (a : Self.Share) → result ≡ Ok a
+            → part.new ≡ left self.now (costs_of costs.now) q component part.old };
 }
 
 // The three components of a room that holds their residuals: n places of Y, a quarter of that of U and of V.
-pub fn code_parts(room: &mut [i16], costs: &[u64; 28], q: Request, n: usize) -> SubBlockAnswer
-    requires { AllReady (costs_of costs.now) q n room.old }
-    ensures { Parted shares (answer_in (costs_of costs.now) q n room.old)
-        (left_in (costs_of costs.now) q n room.old) room.new (sub_block_outcome result) }
+fn in_turn<C: Coder>(
+    coder: &C,
+    room: &mut [i16],
+    residuals: &[i16],
+    shown: &mut [i16],
+    costs: &[u64; 28],
+    q: Request,
+    n: usize,
+) -> Result<Three<C::Share>, Refused>
+    requires ready { AllReady (costs_of costs.now) q n room.old }
+    requires given { (room.old ≡ residuals.now) × (C.wide ≤ length shown.old) }
+    ensures { Parted (C.answer coder.now (costs_of costs.now) q) (C.left coder.now (costs_of costs.now) q) n room.old
+        room.new result }
 {
-    let u_end = n + n / 4;
-    let v_end = u_end + n / 4;
-    let answer_y = code_component(&mut room[0..n], costs, q, Component::Y);
-    let y = match answer_y {
-        QuantAnswer::Coded(share) => share,
-        QuantAnswer::Refused(why, component) => {
-            return SubBlockAnswer::Refused(why, component);
-        }
-    };
-    let answer_u = code_component(&mut room[n..u_end], costs, q, Component::U);
-    let u = match answer_u {
-        QuantAnswer::Coded(share) => share,
-        QuantAnswer::Refused(why, component) => {
-            return SubBlockAnswer::Refused(why, component);
-        }
-    };
-    let answer_v = code_component(&mut room[u_end..v_end], costs, q, Component::V);
-    match answer_v {
-        QuantAnswer::Coded(v) => SubBlockAnswer::Coded(y, u, v),
-        QuantAnswer::Refused(why, component) => SubBlockAnswer::Refused(why, component),
-    }
+    let parts = stretches_of(residuals, n);
+    let (of_y, chroma) = room.split_at_mut(n);
+    let (of_u, of_v) = chroma.split_at_mut(n / 4);
+    let y = coder.code(of_y, parts.y, shown, costs, q, Component::Y)?;
+    let u = coder.code(of_u, parts.u, shown, costs, q, Component::U)?;
+    let v = coder.code(of_v, parts.v, shown, costs, q, Component::V)?;
+    Ok(Three { y, u, v })
+}
+
+// The stretches at the front of a buffer, coded in a room of their own, and written once all three have passed.
+fn in_room<C: Coder>(
+    coder: &C,
+    room: &mut [i16],
+    front: &mut [i16],
+    shown: &mut [i16],
+    costs: &[u64; 28],
+    q: Request,
+    n: usize,
+) -> Result<Three<C::Share>, Refused>
+    requires ready { AllReady (costs_of costs.now) q n front.old }
+    requires given { (length room.old ≡ length front.old) × (C.wide ≤ length shown.old) }
+    ensures parted { Parted (C.answer coder.now (costs_of costs.now) q) (C.left coder.now (costs_of costs.now) q) n
+        front.old front.new result }
+    ensures kept { (r : Refused) → result ≡ Err r → front.new ≡ front.old }
+{
+    room.copy_from_slice(front);
+    let shares = in_turn(coder, room, front, shown, costs, q, n)?;
+    front.copy_from_slice(room);
+    Ok(shares)
+}
+
+// A room for the largest call.
+fn code_tested<C: Coder>(
+    coder: &C,
+    buffer: &mut [i16],
+    shown: &mut [i16],
+    costs: &[u64; 28],
+    q: Request,
+) -> Result<Three<C::Share>, Refused>
+    requires early { EarlyPassed (requested buffer.old (costs_of costs.now) q) }
+    requires wide { C.wide ≤ length shown.old }
+    ensures { Called (C.answer coder.now (costs_of costs.now) q) (C.left coder.now (costs_of costs.now) q)
+        (requested buffer.old (costs_of costs.now) q) buffer.new result }
+{
+    let n = luma_places(q.log2_luma);
+    let end = n + n / 4 + n / 4;
+    let mut room = [0i16; 1536];
+    in_room(
+        coder,
+        &mut room[..end],
+        &mut buffer[..end],
+        shown,
+        costs,
+        q,
+        n,
+    )
+}
+
+// The call over the three components.
+pub fn code_components<C: Coder>(
+    coder: &C,
+    buffer: &mut [i16],
+    shown: &mut [i16],
+    costs: &[u64; 28],
+    q: Request,
+) -> Result<Three<C::Share>, Refused>
+    requires { C.wide ≤ length shown.old }
+    ensures { Called (C.answer coder.now (costs_of costs.now) q) (C.left coder.now (costs_of costs.now) q)
+        (requested buffer.old (costs_of costs.now) q) buffer.new result }
+{
+    test_settings(q)?;
+    test_buffer(buffer, costs, q)?;
+    code_tested(coder, buffer, shown, costs, q)
 }

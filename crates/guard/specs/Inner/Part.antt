@@ -1,21 +1,22 @@
 -- What the code of a component answers and leaves in the guarded call, over its residuals as a list: what the quantiser
 -- alone refuses, then the first candidate that fits, where the component is run, and nothing where it is not.
-use Rattle.std.specs.Prelude.{◌≡◌, cond, List, ℤ}
+use Rattle.std.specs.Prelude.{◌≡◌, cond, List, ℤ, Result}
+use Rattle.refusals.specs.declared.Refused.{Refused}
 use Rattle.refusals.specs.declared.Component.{Component}
-use Rattle.refusals.specs.Faults.{Outcome, accepted, refused}
+use Rattle.refusals.specs.Faults.{Outcome, accepted}
 use Rattle.price.specs.declared.Costs.{Costs}
 use Rattle.coding.specs.Block.{Quant, count_of, price_of}
 use Rattle.coding.specs.Call.{quant_verdict}
 use Rattle.coding.specs.declared.Coded.{Coded}
 use Rattle.components.specs.declared.Request.{Request}
 use Rattle.components.specs.Call.{bit}
-use Rattle.stretch.specs.Inner.Part.{coding_of}
+use Rattle.stretch.specs.Inner.Part.{coding_of, past}
 use Rattle.refusals.specs.declared.Three.{Three}
+use Rattle.refusals.specs.Three.{part_of}
 use Rattle.heights.specs.declared.Heights.{Heights}
 use Rattle.guarding.specs.declared.Guarded.{Guarded}
-use Rattle.guarding.specs.declared.GuardAnswer.{GuardAnswer}
 use Rattle.guarding.specs.Block.{Guard, guarded_levels}
-use Rattle.guarding.specs.Call.{heights_of, nothing}
+use Rattle.guarding.specs.Call.{nothing}
 use Rattle.guarding.specs.Inner.Held.{guard_by, guard_outcome, held_answer}
 
 -- the count and the price of the block that the mode writes
@@ -25,12 +26,7 @@ OfMode c a = (a.count ≡ count_of c) × (a.price ≡ price_of c)
 -- the block of a component by its residuals
 unfoldable pub guard_in : Component → Costs → Request → Three Heights → List ℤ → Guard
 unfolding guard_by
-guard_in k t q h r = guard_by r t (coding_of k q) (heights_of k h)
-
--- an answer that is given only past a verdict
-abbrev pub past : {A : Type 0} → Outcome Unit → Outcome A → Outcome A
-past (accepted u) a = a
-past (refused n c) a = refused n c
+guard_in k t q h r = guard_by r t (coding_of k q) (part_of k h)
 
 unfoldable pub guard_part_answer : Component → Costs → Request → Three Heights → List ℤ → Outcome Guarded
 unfolding quant_verdict held_answer guard_in
@@ -45,6 +41,6 @@ guard_part_left k t q h r = let after = guarded_levels (guard_in k t q h r) in c
 
 -- the answer, and the levels where it is no refusal
 pub record HeldPart (k : Component) (t : Costs) (q : Request) (h : Three Heights) (before after : List ℤ)
-    (r : GuardAnswer) : Type 0 where
+    (r : Result Guarded Refused) : Type 0 where
   pub answer : guard_outcome r ≡ guard_part_answer k t q h before
   pub left : (a : Guarded) → guard_outcome r ≡ accepted a → after ≡ guard_part_left k t q h before

@@ -4,7 +4,7 @@ use Rattle.std.specs.Prelude.{◌≡◌, true, false, cond, List, ℕ, ◌*◌, 
 use Rattle.integers.specs.Tests.{some}
 use Rattle.refusals.specs.declared.Component.{Component}
 use Rattle.refusals.specs.Sides.{most_log2}
-use Rattle.refusals.specs.Faults.{Outcome}
+use Rattle.refusals.specs.Faults.{Outcome, accepted, refused}
 use Rattle.transform.specs.Coefficients.{coefficients}
 use Rattle.transform.specs.Call.{wild}
 use Rattle.price.specs.Lambda.{lambda_refused}
@@ -16,7 +16,7 @@ use Rattle.coding.specs.Block.{Quant, called}
 use Rattle.coding.specs.Call.{coded, quant_answer, quant_buffer}
 use Rattle.components.specs.declared.Request.{Request}
 use Rattle.components.specs.Call.{bit, log2_of}
-use Rattle.admission.specs.Inner.Tested.{set_of}
+use Rattle.refusals.specs.Three.{part_of}
 
 -- a component's log2 side
 abbrev pub log2_in : Component → Request → ℕ
@@ -28,7 +28,7 @@ coding_of k q =
     record {
       log2 = log2_in k q;
       component = k;
-      settings = set_of k q;
+      settings = part_of k q.settings;
       intra_slice = q.intra_slice;
       intra_coded = q.intra_coded;
       mode = q.mode;
@@ -44,8 +44,8 @@ pub record Ready (k : Component) (t : Costs) (q : Request) (r : List ℤ) : Type
   pub high : q.log2_luma ≤ most_log2
   pub long : length r ≡ 2 ^ log2_in k q * 2 ^ log2_in k q
   pub costs : cost_refused t ≡ false
-  pub qp : bit k q.run ≡ true → ltb 63 (set_of k q).qp ≡ false
-  pub lambda : bit k q.run ≡ true → lambda_refused (set_of k q).lambda ≡ false
+  pub qp : bit k q.run ≡ true → ltb 63 (part_of k q.settings).qp ≡ false
+  pub lambda : bit k q.run ≡ true → lambda_refused (part_of k q.settings).lambda ≡ false
   pub tame : bit k q.run ≡ true → some wild r ≡ false
 
 unfoldable pub part_answer : Component → Costs → Request → List ℤ → Outcome Coded
@@ -55,3 +55,8 @@ part_answer k t q r = let a = quant_answer (quant_in k t q r) in cond (bit k q.r
 unfoldable pub part_left : Component → Costs → Request → List ℤ → List ℤ
 unfolding quant_buffer quant_in
 part_left k t q r = let after = quant_buffer (quant_in k t q r) in cond (bit k q.run) after r
+
+-- an answer that is given only past a verdict
+abbrev pub past : {A : Type 0} → Outcome Unit → Outcome A → Outcome A
+past (accepted u) a = a
+past (refused n c) a = refused n c
