@@ -13,7 +13,11 @@ use reader::{misread, read};
 use refusals::{Refusal, no_side, side};
 use writer::{count_levels, write};
 
+// The magnitude that no level may have: its negation alone fits 16 bits.
+const LOWEST: u32 = 32768;
+
 // The levels of a square block at the front of `block`, by rows, as symbols at the front of the list; how many.
+#[tactic(auto, unfolding(runs::specs::Call::write_verdict, runs::specs::Call::write_answer, runs::specs::Call::write_list))]
 pub fn write_symbols(block: &[i16], log2_side: usize, list: &mut [u32]) -> Result<usize, Refusal>
     ensures answer { write_outcome result
         ≡ write_answer (writing block.now log2_side list.old) }
@@ -28,28 +32,32 @@ pub fn write_symbols(block: &[i16], log2_side: usize, list: &mut [u32]) -> Resul
     if block.len() < n {
         return Err(Refusal::Length);
     }
-    if largest(&block[..n]) == 32768 {
+    let block = &block[..n];
+    if largest(block) == LOWEST {
         return Err(Refusal::Sample);
     }
-    let count = count_levels(&block[..n]);
+    let count = count_levels(block);
     if list.len() < count {
         return Err(Refusal::Room);
     }
-    write(&block[..n], log2_side, list, count);
+    write(block, log2_side, list, count);
     Ok(count)
 }
 
 // The front of the list, so many places of it: what the writer filled, by the number that it answered.
-pub fn filled<'a>(list: &'a [u32], count: usize) -> &'a [u32]
+#[tactic(auto, unfolding(runs::specs::Call::filled_of))]
+pub fn filled(list: &[u32], count: usize) -> &[u32]
     ensures { result.now ≡ filled_of count list.now }
 {
     if count <= list.len() {
-        return &list[..count];
+        &list[..count]
+    } else {
+        &[]
     }
-    &list[..0]
 }
 
 // The levels that the symbols of the whole list tell, by rows, in the square block at the front of `block`.
+#[tactic(auto, unfolding(runs::specs::Call::read_verdict, runs::specs::Call::read_buffer))]
 pub fn read_symbols(list: &[u32], block: &mut [i16], log2_side: usize) -> Result<(), Refusal>
     ensures answer { verdict_outcome result
         ≡ read_verdict (reading list.now block.old log2_side) }
