@@ -1,6 +1,5 @@
 -- What can be amiss with either call, computed: each fault by itself, each thing that a list can have wrong by itself,
 -- and the order of the faults, in which the first that holds decides.
--- Assumes nothing.
 use mathlib.Core.Path.{◌≡◌, refl}
 use mathlib.Core.List.{List, [], ◌∷◌}
 use Prim.Native.Nat.{ℕ}

@@ -1,6 +1,5 @@
 -- The two calls undo each other. What was written is accepted, and read it is the block that was written; what was
 -- accepted and read is written as the list that it came from. So an accepted list is the only one for its block.
--- Assumes nothing.
 use mathlib.Core.Path.{◌≡◌, sym, ap, subst, ◌∙◌}
 use mathlib.Core.Bool.{false}
 use mathlib.Core.List.{List, ◌++◌, map}

@@ -1,5 +1,4 @@
 -- Any two outcomes that the contract of `write_symbols` allows coincide, and any two of `read_symbols`.
--- Assumes nothing.
 use mathlib.Core.Path.{◌≡◌}
 use mathlib.Core.List.{List}
 use Prim.Native.Nat.{ℕ}

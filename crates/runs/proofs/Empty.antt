@@ -1,6 +1,5 @@
 -- The empty list is the empty block's, of both calls and both ways: a block of zeros is written as no symbol, and a
 -- block written as no symbol is of zeros; the empty list tells a block of zeros, and no other list does.
--- Assumes nothing.
 use mathlib.Core.Path.{◌≡◌, refl, sym, ap, ◌∙◌}
 use mathlib.Core.List.{List, [], ◌∷◌, ◌++◌, map}
 use Prim.Native.Nat.{ℕ, ◌<◌}

@@ -1,6 +1,5 @@
 -- What a list has wrong, from its front: the first symbol is wrong where it stands, or what is behind it is wrong in
 -- the places that are left. This is how code looks through a list, and how an accepted list is taken apart.
--- Assumes nothing.
 use mathlib.Core.Path.{◌≡◌, refl, sym, ap, ◌∙◌}
 use mathlib.Core.Bool.{Bool, true, false, not, ◌&&◌, ◌||◌}
 use mathlib.Core.List.{List, [], ◌∷◌, map}

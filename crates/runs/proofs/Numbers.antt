@@ -1,6 +1,5 @@
 -- Numbers for both calls, worked out apart from the definitions and computed over those of the calls: the lists of some
 -- blocks, and the blocks that these lists tell.
--- Assumes nothing.
 use mathlib.Core.Path.{◌≡◌, refl}
 use mathlib.Core.List.{List, [], ◌∷◌, ◌++◌}
 use Prim.Native.Nat.{ℕ}

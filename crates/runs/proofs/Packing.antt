@@ -1,6 +1,5 @@
 -- A packed symbol tells its fields, whatever the width of the run's field: what was packed is unpacked as it was, so
 -- that no two symbols have one number, and a number that uses no other bit is what its fields are packed to.
--- Assumes nothing.
 use mathlib.Core.Path.{◌≡◌, refl, sym, ap, ◌∙◌}
 use mathlib.Core.Bool.{Bool, true, false}
 use Prim.Native.Nat.{ℕ, zero, suc, ◌+◌, ◌*◌, ◌/◌, ◌%◌, ◌^◌, ◌≤◌, ◌<◌}

@@ -1,6 +1,5 @@
 -- A block within the sides that the calls accept, in scan order: as many levels as places, so that a run fits its
 -- field; each level of the block is one of them, and each of them is one of the block.
--- Assumes nothing.
 use mathlib.Core.Path.{◌≡◌, sym, ap, subst, ◌∙◌}
 use mathlib.Core.Logic.{⊎_elim}
 use mathlib.Core.Bool.{false, cond, ◌||◌}

@@ -1,6 +1,5 @@
 -- What the reader promises. An accepted buffer begins with the block whose levels in scan order are those that the list
 -- tells. The surplus behind the block is always as it was, and of a refused buffer all is.
--- Assumes nothing.
 use mathlib.Core.Path.{◌≡◌, refl, sym, ap, ◌∙◌}
 use mathlib.Core.Bool.{false}
 use mathlib.Core.List.{List, [], map}

@@ -2,7 +2,6 @@
 -- accepted and read back as it was, and what is accepted and read is written back as it was, so that an accepted list
 -- is the only one that tells its levels. No levels but zeros have no symbols, and there are as many symbols as levels
 -- that are not 0.
--- Assumes nothing.
 use mathlib.Core.Path.{◌≡◌, refl, sym, ap, ◌∙◌}
 use mathlib.Core.Logic.{◌↔◌}
 use mathlib.Core.Bool.{Bool, true, false, not, cond, ◌||◌, true≢false}

@@ -1,6 +1,5 @@
 -- What the writer promises. An accepted list begins with the block's symbols, as many as the answer says, and at most
 -- as many as the block has places; the places behind them hold what they held. A refused list is as it was.
--- Assumes nothing.
 use mathlib.Core.Path.{◌≡◌, refl, sym, ap, ◌∙◌}
 use mathlib.Core.Bool.{Bool, false, cond}
 use mathlib.Core.List.{List, [], ◌++◌}

@@ -6,9 +6,8 @@ use Rattle.integers.specs.Tests.{some, eq_ℤ}
 use Rattle.refusals.specs.declared.Refusal.{Refusal}
 use Rattle.refusals.specs.declared.Refusal.TheVariants.{Side, Length, Sample, Room}
 use Rattle.refusals.specs.declared.Refusal.TheVariants as refusals
-use Rattle.refusals.specs.Numbers.{number_of}
 use Rattle.refusals.specs.Sides.{most_log2}
-use Rattle.refusals.specs.Faults.{Fault, of_none, outside, Outcome, accepted, refused, verdict, answering, if_accepted, whole_outcome_by}
+use Rattle.refusals.specs.Faults.{Fault, of_none, outside, Outcome, verdict, answering, if_accepted, whole_outcome_by}
 use Rattle.scan.specs.Scan.{scan}
 use Rattle.scan.specs.Order.{in_order, laid}
 use Rattle.runs.specs.Packing.{run_bits, packed, unpacked}
