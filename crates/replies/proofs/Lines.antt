@@ -1,7 +1,7 @@
 -- Answer lines out of their parts: what was put at the start of the room, part behind part, is the line.
--- Assumes nothing.
 use mathlib.Core.Path.{◌≡◌, ap, ◌∙◌}
-use mathlib.Core.Bool.{Bool, true, false}
+use mathlib.Core.Bool.{Bool}
+use Rattle.std.proofs.Common.{Option, Some}
 use mathlib.Core.List.{List, ◌++◌}
 use Prim.Native.Nat.{ℕ, ◌+◌, ◌*◌, ◌^◌, ◌≤◌, ◌<◌}
 use native.Mathlib.Omega.{arith}
@@ -9,9 +9,9 @@ use lib.IntN.{ℤ}
 use lib.ListN.{length, take, drop, length-append}
 use lib.Seq.{take_at}
 use Rattle.text.specs.Text.{bytes, printed, printed_sample, Put}
-use Rattle.text.proofs.Buffers.{put_none, put_both}
+use Rattle.text.proofs.Buffers.{put_both}
 use Rattle.text.proofs.Printing.{few_digits}
-use Rattle.replies.specs.Reply.{spaced, verdict_text, list_if, list_text, reply_text, Written}
+use Rattle.replies.specs.Reply.{spaced, verdict_text, list_text, reply_text, Written}
 
 pub looser : (before text after : List ℕ) (at few most r : ℕ) → few ≤ most → Put before at text few after r
     → Put before at text most after r
@@ -34,41 +34,35 @@ written before text after most r h k e p =
       kept = e;
     }
 
--- ---- a list behind a colon, or nothing
-module _ (list before : List ℕ) (at : ℕ) where
-  pub no_list : Put before at (list_text (list_if false list)) (2 + 11 * length list) before at
-  no_list =
-      let here : at + 0 ≡ at = omega arith in
-      rw here at (put_none before at (2 + 11 * length list))
-
-  pub a_list : (parted after : List ℕ) (r s : ℕ) → at + 2 ≤ length before → Put before at (bytes " :") 2 parted r
-      → Put parted r (spaced printed list) (11 * length list) after s
-      → Put before at (list_text (list_if true list)) (2 + 11 * length list) after s
-  a_list parted after r s h p q =
-      put_both before (bytes " :") (spaced printed list) parted after at 2 r (11 * length list) s
-      (2 + 11 * length list) h (omega (arith, q.few)) p q
+-- ---- a list behind a colon
+pub a_list : (list before parted after : List ℕ) (at r s : ℕ) → at + 2 ≤ length before → Put before at (bytes " :") 2 parted r
+    → Put parted r (spaced printed list) (11 * length list) after s
+    → Put before at (list_text (Some list)) (2 + 11 * length list) after s
+a_list list before parted after at r s h p q =
+    put_both before (bytes " :") (spaced printed list) parted after at 2 r (11 * length list) s
+    (2 + 11 * length list) h (omega (arith, q.few)) p q
 
 -- ---- the whole line
-module _ (accepted listed : Bool) (numbers list : List ℕ) (samples : List ℤ)
+module _ (accepted : Bool) (numbers : List ℕ) (list : Option (List ℕ)) (long : ℕ) (samples : List ℤ)
     (before told counted behind parted after : List ℕ) where
   -- each part's length is within its room: 8 bytes, 21 for each of up to 12 numbers, 2 and 11 for each number of the
   -- list, 2, 7 for each sample
-  pub replied : (a b c d r : ℕ) → length numbers ≤ 12 → 2 * length list + length samples ≤ 8192
+  pub replied : (a b c d r : ℕ) → length numbers ≤ 12 → 2 * long + length samples ≤ 8192
       → length before ≡ 65536 → length after ≡ length before
       → Put before 0 (verdict_text accepted) 8 told a
       → Put told a (spaced printed numbers) (21 * length numbers) counted b
-      → Put counted b (list_text (list_if listed list)) (2 + 11 * length list) behind c
+      → Put counted b (list_text list) (2 + 11 * long) behind c
       → Put behind c (bytes " :") 2 parted d
       → Put parted d (spaced printed_sample samples) (7 * length samples) after r
-      → Written (reply_text accepted numbers (list_if listed list) samples) before after r
+      → Written (reply_text accepted numbers list samples) before after r
   unfolding reply_text
   replied a b c d r few short room e p q s t u =
       let v = verdict_text accepted in
       let n = spaced printed numbers in
-      let k = list_text (list_if listed list) in
+      let k = list_text list in
       let colon = bytes " :" in
       let l = spaced printed_sample samples in
-      let room-k = 2 + 11 * length list in
+      let room-k = 2 + 11 * long in
       let vn : length (v ++ n) ≡ length v + length n = length-append v n in
       let vnk : length (v ++ n ++ k) ≡ length (v ++ n) + length k = length-append (v ++ n) k in
       let vnkc : length (v ++ n ++ k ++ colon) ≡ length (v ++ n ++ k) + 2 = length-append (v ++ n ++ k) colon in

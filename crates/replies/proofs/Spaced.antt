@@ -1,6 +1,5 @@
--- Texts put one behind the other, each behind a space: what the turns of `put_numbers` and of `put_samples` keep, said
+-- Texts put one behind the other, each behind a space: what the turns of `put_each` keep, said
 -- once for whatever is printed.
--- Assumes nothing.
 use mathlib.Core.Path.{◌≡◌, refl, sym, ap, ◌∙◌}
 use mathlib.Core.List.{List, [], ◌∷◌, ◌++◌, append_assoc, append-nil}
 use Prim.Native.Nat.{ℕ, ◌+◌, ◌*◌, ◌≤◌, ◌<◌}

@@ -1,6 +1,5 @@
 -- The protocol's answer lines, as bytes: what stands in the room for an answer once one was put there.
-use Rattle.std.specs.Prelude.{◌≡◌, Bool, true, false, cond, List, [], ◌∷◌, ◌++◌, ℕ, ◌≤◌, ℤ, length, take}
-use Rattle.std.proofs.Math.Option.{Option, none, some}
+use Rattle.std.specs.Prelude.{◌≡◌, Bool, true, false, cond, List, [], ◌∷◌, ◌++◌, ℕ, ◌≤◌, ℤ, length, take, Option, Some, None}
 use Rattle.text.specs.Text.{bytes, printed, printed_sample}
 
 -- a space, code 32, and a text for each
@@ -14,11 +13,11 @@ verdict_text false = bytes "refused"
 
 -- a call's list, if it has one
 abbrev pub list_if : Bool → List ℕ → Option (List ℕ)
-list_if listed list = cond listed (some list) none
+list_if listed list = cond listed (Some list) None
 
 abbrev pub list_text : Option (List ℕ) → List ℕ
-list_text none = []
-list_text (some list) = bytes " :" ++ spaced printed list
+list_text None = []
+list_text (Some list) = bytes " :" ++ spaced printed list
 
 -- the verdict, the call's numbers, a colon, the samples; behind the numbers a list, with a colon of its own
 unfoldable pub reply_text : Bool → (numbers : List ℕ) → (list : Option (List ℕ)) → List ℤ → List ℕ

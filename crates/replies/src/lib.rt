@@ -2,13 +2,15 @@
 // line that specs/Reply.antt defines, for all answers and all samples.
 #![tactic(auto)]
 
-ghost use Rattle.std.specs.Prelude.{◌≡◌, ◌+◌, ◌*◌, ◌≤◌, length, take};
+ghost use Rattle.std.specs.Prelude.{◌≡◌, ℕ, List, ◌+◌, ◌*◌, ◌≤◌, length, take};
+ghost use Rattle.std.specs.Option.{option_copied, option_map_or};
 ghost use Rattle.text.specs.Text.{printed, printed_sample, Put};
-ghost use Rattle.replies.specs.Reply.{spaced, verdict_text, list_if, list_text, reply_text, malformed_text, Written};
+ghost use Rattle.replies.specs.Reply.{spaced, verdict_text, list_text, reply_text, malformed_text, Written};
 
 use text::{put_natural, put_sample, put_word};
 
 // What stands before the colon: whether the call was accepted, and the first `count` numbers of the array.
+// Kept: a count beside an array, as calls answer from none to twelve numbers and the protocol has no heap.
 #[derive(Drop)]
 pub struct Reply {
     pub accepted: bool,
@@ -33,78 +35,84 @@ fn put_verdict(out: &mut [u8], accepted: bool) -> usize
     put_word(out, 0, b"refused")
 }
 
-// A space and a number for each: at most 21 bytes.
-fn put_numbers(out: &mut [u8], at: usize, numbers: &[u64]) -> usize
-    requires { (at ≤ 8) × (length numbers.now ≤ 12) × (length out.old ≡ 65536) }
-    ensures { Put out.old at (spaced printed numbers.now)
-        (21 * length numbers.now) out.new result }
-{
-    let mut next = at;
-    let mut i = 0;
-    while i < numbers.len() {
-        out[next] = b' ';
-        next = put_natural(out, next + 1, numbers[i]);
-        i += 1;
-    }
-    next
+// What stands in a reply: a number or a sample, as a text of so many bytes at most.
+trait Shown: Copy {
+    ghost text: { Self → List ℕ };
+
+    ghost most: { ℕ };
+
+    fn put(self, out: &mut [u8], at: usize) -> usize
+        requires { at + 21 ≤ length out.old }
+        ensures { Put out.old at (text self) most out.new result };
 }
 
-// A space and a number of 32 bits for each: at most 11 bytes.
-fn put_list(out: &mut [u8], at: usize, list: &[u32]) -> usize
-    requires { (at ≤ 262) × (length list.now ≤ 4096) × (length out.old ≡ 65536) }
-    ensures { Put out.old at (spaced printed list.now)
-        (11 * length list.now) out.new result }
+impl Shown for u64 {
+    ghost text = { printed };
+
+    ghost most = { 20 };
+
+    fn put(self, out: &mut [u8], at: usize) -> usize {
+        put_natural(out, at, self)
+    }
+}
+
+impl Shown for u32 {
+    ghost text = { printed };
+
+    ghost most = { 10 };
+
+    fn put(self, out: &mut [u8], at: usize) -> usize {
+        put_natural(out, at, u64::from(self))
+    }
+}
+
+impl Shown for i16 {
+    ghost text = { printed_sample };
+
+    ghost most = { 6 };
+
+    fn put(self, out: &mut [u8], at: usize) -> usize {
+        put_sample(out, at, self)
+    }
+}
+
+// A space and a text for each.
+fn put_each<T: Shown>(out: &mut [u8], at: usize, items: &[T]) -> usize
+    requires { at + (T.most + 1) * length items.now + 21 ≤ length out.old }
+    ensures { Put out.old at (spaced T.text items.now) ((T.most + 1) * length items.now) out.new result }
 {
     let mut next = at;
-    let mut i = 0;
-    while i < list.len() {
+    for item in items {
         out[next] = b' ';
-        next = put_natural(out, next + 1, list[i] as u64);
-        i += 1;
+        next = item.put(out, next + 1);
     }
     next
 }
 
 // The list of a call that has one, behind a colon.
-fn put_listed(out: &mut [u8], at: usize, listed: bool, list: &[u32]) -> usize
-    requires { (at ≤ 260) × (length list.now ≤ 4096) × (length out.old ≡ 65536) }
-    ensures { Put out.old at (list_text (list_if listed list.now))
-        (2 + 11 * length list.now) out.new result }
+fn put_list(out: &mut [u8], at: usize, list: Option<&[u32]>) -> usize
+    requires { (at ≤ 260) × (option_map_or (λ l. length l.now) list 0 ≤ 4096) × (length out.old ≡ 65536) }
+    ensures { Put out.old at (list_text (option_copied list.entry))
+        (2 + 11 * option_map_or (λ l. length l.now) list.entry 0) out.new result }
 {
-    if listed {
-        let parted = put_word(out, at, b" :");
-        return put_list(out, parted, list);
-    }
-    at
-}
-
-// A space and a sample for each: at most 7 bytes.
-fn put_samples(out: &mut [u8], at: usize, samples: &[i16]) -> usize
-    requires { (at + 7 * length samples.now ≤ 57608) × (length out.old ≡ 65536) }
-    ensures { Put out.old at (spaced printed_sample samples.now)
-        (7 * length samples.now) out.new result }
-{
-    let mut next = at;
-    let mut i = 0;
-    while i < samples.len() {
-        out[next] = b' ';
-        next = put_sample(out, next + 1, samples[i]);
-        i += 1;
-    }
-    next
+    let Some(list) = list else {
+        return at;
+    };
+    let parted = put_word(out, at, b" :");
+    put_each(out, parted, list)
 }
 
 // The whole answer: what a call answered, its list, if it has one, and the buffer as it left them.
-pub fn put_reply(out: &mut [u8], reply: Reply, listed: bool, list: &[u32], samples: &[i16]) -> usize
-    requires { (reply.count ≤ 12) × (2 * length list.now + length samples.now ≤ 8192)
+pub fn put_reply(out: &mut [u8], reply: Reply, list: Option<&[u32]>, samples: &[i16]) -> usize
+    requires { (reply.count ≤ 12) × (2 * option_map_or (λ l. length l.now) list 0 + length samples.now ≤ 8192)
         × (length out.old ≡ 65536) }
     ensures { Written (reply_text reply.accepted (take reply.count reply.numbers)
-        (list_if listed list.now) samples.now) out.old out.new result }
+        (option_copied list.entry) samples.now) out.old out.new result }
 {
     let numbers = reply.numbers;
     let told = put_verdict(out, reply.accepted);
-    let counted = put_numbers(out, told, &numbers[..reply.count]);
-    let behind = put_listed(out, counted, listed, list);
+    let counted = put_each(out, told, &numbers[..reply.count]);
+    let behind = put_list(out, counted, list);
     let parted = put_word(out, behind, b" :");
-    put_samples(out, parted, samples)
+    put_each(out, parted, samples)
 }
