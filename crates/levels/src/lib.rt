@@ -6,36 +6,25 @@
 ghost use Rattle.std.specs.Prelude.{◌≤◌, ◌^◌};
 ghost use Rattle.refusals.specs.Sides.{most_log2};
 ghost use Rattle.coding.specs.Block.{written_in};
-ghost use Rattle.weights.specs.Inner.Choosing.{Choosable, ChosenBy};
+ghost use Rattle.weights.specs.Inner.Chosen.{Blank, ChosenBy};
 ghost use Rattle.levels.specs.Inner.Levels.{Lent, Codable, CodedAs};
 
 use coding::{Coded, Mode};
-use scaling::scale::Scale;
-use scan::fill_scan;
+use scan::Scan;
 use search::find_levels;
 use signs::{keep, put_signs};
 use walk::choose_levels;
-use weights::prices::Prices;
+use weights::Weights;
+use weights::kept::Kept;
 
 // The magnitudes that the mode writes, by rows, and what they cost.
-fn choose(
-    kept: &[u16],
-    levels: &mut [u16],
-    scan: &[u16],
-    w: usize,
-    h: usize,
-    p: Prices,
-    g: Scale,
-    d: u64,
-    count: usize,
-    mode: Mode,
-) -> u64
-    requires { Choosable p g d w h kept.now scan.now levels.old count }
-    ensures { ChosenBy (written_in mode) p g d w h kept.now levels.new result }
+fn choose(kept: Kept, levels: &mut [u16], mode: Mode) -> u64
+    requires { Blank kept levels.old }
+    ensures { ChosenBy (written_in mode) kept.entry levels.new result }
 {
     match mode {
-        Mode::Walk => choose_levels(kept, levels, scan, w, h, p, g, d, count),
-        Mode::Least => find_levels(kept, levels, scan, w, h, p, g, d, count),
+        Mode::Walk => choose_levels(kept, levels),
+        Mode::Least => find_levels(kept, levels),
     }
 }
 
@@ -43,8 +32,7 @@ fn choose(
 pub fn code_in(
     block: &mut [i16],
     log2_side: usize,
-    p: Prices,
-    g: Scale,
+    weights: Weights,
     d: u64,
     mode: Mode,
     scan: &mut [u16],
@@ -52,16 +40,20 @@ pub fn code_in(
     levels: &mut [u16],
 ) -> Coded
     requires { (1 ≤ log2_side) × (log2_side ≤ most_log2)
-        × Codable p g (2 ^ log2_side) (2 ^ log2_side) block.old d
+        × Codable weights.prices weights.scale (2 ^ log2_side) (2 ^ log2_side) block.old d
         × Lent block.old scan.old kept.old levels.old }
-    ensures { CodedAs mode p g (2 ^ log2_side) (2 ^ log2_side) block.old
-        block.new result }
+    ensures { CodedAs mode weights.prices weights.scale (2 ^ log2_side) (2 ^ log2_side) block.old block.new result }
 {
-    let one: usize = 1;
-    let side = one << (log2_side as u32);
-    fill_scan(log2_side, scan);
-    let held = keep(block, kept, g);
-    let price = choose(kept, levels, scan, side, side, p, g, d, held, mode);
+    let scan = Scan::square(log2_side, scan);
+    let count = keep(block, kept, weights.scale);
+    let all = Kept {
+        magnitudes: kept,
+        count,
+        scan,
+        d,
+        weights,
+    };
+    let price = choose(all, levels, mode);
     let count = put_signs(block, levels);
     Coded { count, price }
 }

@@ -8,8 +8,7 @@ use Rattle.price.specs.Level.{scaled}
 use Rattle.price.specs.Price.{uncoded, nonzeros, price}
 use Rattle.scaling.specs.declared.scale.Scale.{Scale}
 use Rattle.weights.specs.declared.prices.Prices.{Prices}
-use Rattle.scaling.specs.Inner.Scale.{Sound}
-use Rattle.weights.specs.Inner.Prices.{Modest, Fine, rule_by}
+use Rattle.weights.specs.Inner.Prices.{Fine, rule_by}
 use Rattle.weights.specs.Inner.Places.{Cleared}
 use Rattle.coefficients.specs.Inner.Coefficients.{Within}
 use Rattle.coding.specs.declared.Coded.{Coded}
@@ -29,8 +28,6 @@ places_by g w h block = map (λ z. scaled g.q z) (in_order w h block)
 
 -- what refusals 6 to 9 leave of a block, whose D is d
 pub record Codable (p : Prices) (g : Scale) (w h : ℕ) (block : List ℤ) (d : ℕ) : Type 0 where
-  pub modest : Modest p
-  pub sound : Sound g
   pub room : length block ≡ w * h
   pub fine : (k : ℕ) → Fine p g (scaled g.q (at block k))
   pub few : Within block 32767
