@@ -1,3 +1,4 @@
 -- What functions say to one another: nobody has to believe it, as what a call promises does not cite it.
+pub mod Inside
 pub mod Rows
 pub mod Reading

@@ -3,7 +3,7 @@
 // the cost tables are refused, and the whole number of an accepted lambda.
 #![tactic(auto)]
 
-ghost use Rattle.std.specs.Prelude.{◌≡◌, ◌+◌, ◌≤◌, false, length, take, drop};
+ghost use Rattle.std.specs.Prelude.{◌≡◌, ◌+◌, ◌^◌, ◌≤◌, false, length, take, drop};
 ghost use Rattle.integers.specs.Tests.{some};
 ghost use Rattle.price.specs.Lambda.{lambda_refused, lambda_sum, LambdaWhole};
 ghost use Rattle.price.specs.Costs.{dear, costs_of, cost_refused};
@@ -41,11 +41,19 @@ fn lambda_sum(d: f64) -> f64
 }
 
 // The whole number of an accepted lambda.
-pub fn lambda_whole(d: f64) -> u64
+#[derive(Clone, Copy)]
+pub struct WholeLambda {
+    pub number: u64,
+    pub ghost within: { number ≤ 2 ^ 28 },
+}
+
+pub fn lambda_whole(d: f64) -> WholeLambda
     requires { lambda_refused d ≡ false }
-    ensures { LambdaWhole d result }
+    ensures { LambdaWhole d result.number }
 {
-    std::num::truncating_f64_to_u64(lambda_sum(d))
+    WholeLambda {
+        number: std::num::truncating_f64_to_u64(lambda_sum(d)),
+    }
 }
 
 // Whether some entry is above the most that a cost may be. A loop with one way out is made into vector code.

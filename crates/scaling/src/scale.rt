@@ -30,14 +30,13 @@ impl Scale {
         requires { (1 ≤ log2_side) × (log2_side ≤ most_log2) × (qp ≤ 63) }
         ensures { ScaleOf forward log2_side qp result }
     {
-        let one: u64 = 1;
         let l = log2_side as u32;
         let q = scale(qp);
         let shift = 19 - l + qp / 6;
-        let unit = one << shift;
-        let half = one << (shift - 1);
+        let unit = 1 << shift;
+        let half = 1 << (shift - 1);
         let error = error_scale(log2_side, qp) as u64;
-        let front = one << (8 + l);
+        let front: u64 = 1 << (8 + l);
         let rest = front * 1048576 - q as u64 * error;
         let least = (half + q as u64 - 1) / q as u64;
         Scale {
@@ -66,12 +65,7 @@ pub fn skip_threshold(log2_side: usize, qp: u32, intra_slice: bool) -> u64
     requires { (1 ≤ log2_side) × (log2_side ≤ most_log2) × (qp ≤ 63) }
     ensures { (result ≡ threshold intra_slice (shift_of log2_side qp)) × (1 ≤ result) × (result ≤ 2 ^ 28) }
 {
-    let one: u64 = 1;
-    let unit = one << (19 - log2_side as u32 + qp / 6);
-    let part = unit / 512;
-    if intra_slice {
-        unit - 201 * part
-    } else {
-        unit - 153 * part
-    }
+    let unit: u64 = 1 << (19 - log2_side as u32 + qp / 6);
+    let share = if intra_slice { 201 } else { 153 };
+    unit - share * (unit / 512)
 }

@@ -4,4 +4,4 @@ use Rattle.contexts.proofs.Pricing.{pair_of}
 use Rattle.contexts.proofs.pair_at.Goals as goal
 
 pub returns : goal.returns
-returns c = pair_of c.args.lambda c.args.table.now c.args.row _ c.requires.2 c.requires.1 refl refl
+returns c = pair_of c.args.lambda.number c.args.table.now c.args.row _ c.args.lambda.within c.requires.1 refl refl

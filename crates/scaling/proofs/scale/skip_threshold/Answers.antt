@@ -2,20 +2,20 @@
 use native.Mathlib.Omega.{arith}
 use Rattle.price.specs.Level.{shift_of, threshold}
 use Rattle.scaling.proofs.Scaling.{bit, shift_range, threshold_range}
+use Rattle.scaling.proofs.scale.skip_threshold.Goals.{then-intra_slice, else-intra_slice}
 use Rattle.scaling.proofs.scale.skip_threshold.Goals as goal
 
-pub returns-then-intra_slice : goal.returns-then-intra_slice
+pub returns : goal.returns
 unfolding threshold shift_of
-returns-then-intra_slice c =
+returns c =
     let u = shift_range c.args.log2_side c.args.qp c.requires.0 c.requires.1 c.requires.2 in
-    let t = threshold_range (shift_of c.args.log2_side c.args.qp) (omega arith) (omega arith) _ 201
-    (bit _ (omega arith)) (omega arith) in
-    rw c.if-intra_slice.true (t.0, t.1, omega (arith, t.3))
-
-pub returns-else-intra_slice : goal.returns-else-intra_slice
-unfolding threshold shift_of
-returns-else-intra_slice c =
-    let u = shift_range c.args.log2_side c.args.qp c.requires.0 c.requires.1 c.requires.2 in
-    let t = threshold_range (shift_of c.args.log2_side c.args.qp) (omega arith) (omega arith) _ 153
-    (bit _ (omega arith)) (omega arith) in
-    rw c.if-intra_slice.false (t.0, t.1, omega (arith, t.3))
+    elim c.if-intra_slice.branch [
+      | then-intra_slice w ↦
+          let t = threshold_range (shift_of c.args.log2_side c.args.qp) (omega arith) (omega arith) _ 201
+          (bit _ (omega arith)) (omega arith) in
+          rw (w.if-intra_slice.true, w.share-is) (t.0, t.1, omega (arith, t.3))
+      | else-intra_slice w ↦
+          let t = threshold_range (shift_of c.args.log2_side c.args.qp) (omega arith) (omega arith) _ 153
+          (bit _ (omega arith)) (omega arith) in
+          rw (w.if-intra_slice.false, w.share-is) (t.0, t.1, omega (arith, t.3))
+    ]
