@@ -1,6 +1,5 @@
--- What `next` hands out, from what the search has found: a line that ends in what is left, or that none does, and then
+-- What `next_line` hands out, from what the search has found: a line that ends in what is left, or that none does, and then
 -- what is left is moved or goes.
--- Assumes nothing.
 use Prim.Native.Nat.{ℕ, ◌+◌, ◌-◌, ◌≤◌, ◌<◌}
 use mathlib.Core.Path.{◌≡◌, refl, ◌∙◌}
 use mathlib.Core.Bool.{true, false}
@@ -11,7 +10,7 @@ use native.Mathlib.Omega.{arith}
 use lib.ListN.{length, take}
 use Rattle.input.specs.declared.Cursor.{Cursor}
 use Rattle.input.specs.Lines.{part, left, Free, Within, Ends, HandedOut, PassedOver, Asked}
-use Rattle.input.specs.Inner.Search.{FirstNewline}
+use Rattle.input.proofs.Search.{FirstNewline}
 use Rattle.input.proofs.Parts.{part_length, free_part, part_split}
 
 module _ {buf : List ℕ} {c : Cursor} {end : ℕ} (w : Within c buf) (f : FirstNewline buf c.from c.have end) where

@@ -1,4 +1,5 @@
 mod Handing
 mod Moved
 mod Parts
+mod Search
 pub mod Told

@@ -1,6 +1,5 @@
 -- Parts of a buffer as lists: how long they are, what stands in them, and that a part falls apart at a newline. The
 -- search speaks of places, the contracts of bytes, and these laws go from the one to the other.
--- Assumes nothing.
 use Prim.Native.Nat.{ℕ, suc, ◌+◌, ◌-◌, ◌≤◌, ◌<◌}
 use mathlib.Core.Path.{◌≡◌, sym, ap, ◌∙◌}
 use mathlib.Core.List.{List, ◌∷◌, ◌++◌}
@@ -9,7 +8,7 @@ use native.Mathlib.Omega.{arith}
 use lib.ListN.{length, take, drop, get_or, length-drop}
 use lib.Seq.{length-take-le, drop-cons, drop-drop, take-add, get_or-take, get_or-drop}
 use Rattle.input.specs.Lines.{part, Free}
-use Rattle.input.specs.Inner.Search.{NoNewline}
+use Rattle.input.proofs.Search.{NoNewline}
 
 module _ (buf : List ℕ) (from end : ℕ) (h : end ≤ length buf) where
   pub part_length : length (part buf from end) ≡ end - from

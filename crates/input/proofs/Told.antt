@@ -1,5 +1,4 @@
--- What a caller of `next`, `read` and `last` knows in each arm of its match: the contract at the variant that came.
--- Assumes nothing.
+-- What a caller of `next_line`, `read` and `last` knows in each arm of its match: the contract at the variant that came.
 use Prim.Native.Nat.{ℕ, ◌+◌, ◌≤◌, ◌<◌}
 use mathlib.Core.Path.{◌≡◌, sym, ap, subst, ◌∙◌}
 use mathlib.Core.Bool.{Bool, true, false, cond}
@@ -10,8 +9,8 @@ use lib.ListN.{length}
 use Rattle.input.specs.declared.Cursor.{Cursor}
 use Rattle.input.specs.declared.Line.{Line}
 use Rattle.input.specs.declared.Line.TheVariants.{At, TooLong, More}
-use Rattle.input.specs.declared.Arrival.{Arrival}
-use Rattle.input.specs.declared.Arrival.TheVariants.{Came}
+use Rattle.std.proofs.Common.{Option, Some, Result, Ok}
+use Rattle.std.specs.declared.io.Error.{Error}
 use Rattle.input.specs.declared.Tail.{Tail}
 use Rattle.input.specs.declared.Tail.TheVariants as tail
 use Rattle.input.specs.Lines.{Within, HandedOut, PassedOver, Asked, Handed, Brought, tail_of}
@@ -29,16 +28,16 @@ module _ (before : List ℕ) (c : Cursor) (after : List ℕ) where
       → Asked before c after rest
   told_more e h = subst (λ (l : Line). Handed before c after l) e h
 
-  pub told_grown : {arrival : Arrival} {more : Cursor} → arrival ≡ Came more → Brought before c after arrival
+  pub told_grown : {arrival : Result (Option Cursor) Error} {more : Cursor} → arrival ≡ Ok (Some more) → Brought before c after arrival
       → Within more after × (c.have < more.have)
   told_grown {more = more} e h =
-      let came = subst (λ (a : Arrival). Brought before c after a) e h in
+      let came = subst (λ (a : Result (Option Cursor) Error). Brought before c after a) e h in
       let n = came.2 in
       (came.1, let g : more.have ≡ c.have + n.0 = ap (λ (k : Cursor). k.have) n.2 in omega (arith, g, n.1))
 
-  pub told_came : {arrival : Arrival} {more : Cursor} → arrival ≡ Came more → Brought before c after arrival
+  pub told_came : {arrival : Result (Option Cursor) Error} {more : Cursor} → arrival ≡ Ok (Some more) → Brought before c after arrival
       → Within more after
-  told_came e h = (subst (λ (a : Arrival). Brought before c after a) e h).1
+  told_came e h = (subst (λ (a : Result (Option Cursor) Error). Brought before c after a) e h).1
 
 -- a last line stands in the buffer
 module _ (buf : List ℕ) (c : Cursor) (w : Within c buf) where

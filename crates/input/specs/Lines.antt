@@ -1,14 +1,12 @@
 -- Lines of the input, as they stand in the buffer that it is read into: what the contracts of `input` cite. A newline
 -- is the byte 10; every other byte is an ordinary one. No byte goes but in a line that is handed out, as its newline,
 -- or in a line that is longer than the buffer can hold, which is told.
-use Rattle.std.specs.Prelude.{ℕ, ◌+◌, ◌-◌, ◌≤◌, ◌<◌, ◌≡◌, true, false, cond, List, [], ◌∷◌, ◌++◌, ◌⊎◌, eqb, Option, Result, Ok, Err, length, take, drop, get_or}
+use Rattle.std.specs.Prelude.{ℕ, ◌+◌, ◌-◌, ◌≤◌, ◌<◌, ◌≡◌, true, false, cond, List, [], ◌∷◌, ◌++◌, ◌⊎◌, eqb, Option, Some, None, Result, Ok, Err, length, take, drop, get_or}
 use Rattle.std.specs.Io.KnownBytes.{Keeps, Consumes, IsAtEnd}
 use Rattle.std.specs.declared.io.Error.{Error}
 use Rattle.input.specs.declared.Cursor.{Cursor}
 use Rattle.input.specs.declared.Line.{Line}
 use Rattle.input.specs.declared.Line.TheVariants.{At, TooLong, More}
-use Rattle.input.specs.declared.Arrival.{Arrival}
-use Rattle.input.specs.declared.Arrival.TheVariants.{Came, Ended, Failed}
 use Rattle.input.specs.declared.Tail.{Tail}
 use Rattle.input.specs.declared.Tail.TheVariants as tail
 
@@ -78,27 +76,27 @@ abbrev pub grown : Cursor → ℕ → Cursor
 grown c n = record { from = c.from; have = c.have + n; passing = c.passing }
 
 -- what the answer of a read means: it has failed, or n bytes came; without a byte the input has ended
-abbrev pub arrival_of : Result ℕ Error → Cursor → Arrival
-arrival_of (Err e) c = Failed e
-arrival_of (Ok n) c = cond (eqb n 0) Ended (Came (grown c n))
+abbrev pub arrival_of : Result ℕ Error → Cursor → Result (Option Cursor) Error
+arrival_of (Err e) c = Err e
+arrival_of (Ok n) c = Ok (cond (eqb n 0) None (Some (grown c n)))
 
 -- a read changes nothing of what stands before the bytes that it brings
 abbrev pub Kept : List ℕ → Cursor → List ℕ → Type 0
 Kept before c after = take c.have after ≡ take c.have before
 
 -- and brings one byte or more, where it has not failed and the input has not ended
-abbrev pub Brought : List ℕ → Cursor → List ℕ → Arrival → Type 0
-Brought before c after (Came more) =
+abbrev pub Brought : List ℕ → Cursor → List ℕ → Result (Option Cursor) Error → Type 0
+Brought before c after (Ok (Some more)) =
     Kept before c after × Within more after × ((n : ℕ) × (0 < n) × (more ≡ grown c n))
-Brought before c after Ended = Kept before c after
-Brought before c after (Failed e) = Kept before c after
+Brought before c after (Ok None) = Kept before c after
+Brought before c after (Err e) = Kept before c after
 
 -- where it is known what the reader has left: it loses the bytes that came, it has ended only where nothing was left,
 -- and a read that has failed takes nothing
-abbrev pub Gave : Option (List ℕ) → Option (List ℕ) → Cursor → List ℕ → Arrival → Type 0
-Gave known rest c after (Came more) = Consumes known rest (part after c.have more.have)
-Gave known rest c after Ended = Keeps known rest × IsAtEnd rest
-Gave known rest c after (Failed e) = Keeps known rest
+abbrev pub Gave : Option (List ℕ) → Option (List ℕ) → Cursor → List ℕ → Result (Option Cursor) Error → Type 0
+Gave known rest c after (Ok (Some more)) = Consumes known rest (part after c.have more.have)
+Gave known rest c after (Ok None) = Keeps known rest × IsAtEnd rest
+Gave known rest c after (Err e) = Keeps known rest
 
 -- at the end of the input: all that is left is the last line, unless nothing is left
 abbrev pub tail_of : Cursor → Tail

@@ -1,12 +1,10 @@
-// An input by lines, in a buffer that the caller lends. `next` finds lines in what stands there and reads nothing, so
-// that its contract accounts for every byte: a line is handed out, one that the buffer can't hold is passed over and
+// An input by lines, in a buffer that the caller lends. `next_line` finds lines in what stands there and reads nothing,
+// so that its contract accounts for every byte: a line is handed out, one that the buffer can't hold is passed over and
 // told, or more is asked for. `read` reads once from a reader, as standard input is one, and tells more bytes, the end
 // and a failure apart.
 #![tactic(auto)]
 
-ghost use Rattle.std.specs.Prelude.{◌≡◌, false, ◌+◌, ◌-◌, ◌≤◌, ◌<◌, length, take, IfOk};
-ghost use Rattle.input.specs.Lines.{part, Within, Handed, Brought, Gave, arrival_of, tail_of};
-ghost use Rattle.input.specs.Inner.Search.{FirstNewline};
+ghost use Rattle.std.specs.Prelude.{◌≡◌, false, ◌≤◌, ◌<◌, ◌==◌, length, position};
 
 use std::io;
 use std::io::Read;
@@ -34,14 +32,6 @@ pub enum Line {
     More(Cursor),
 }
 
-// What a read has brought.
-#[derive(Drop)]
-pub enum Arrival {
-    Came(Cursor),
-    Ended,
-    Failed(io::Error),
-}
-
 // What stands behind the last newline, where the input has ended.
 #[derive(Drop)]
 pub enum Tail {
@@ -50,129 +40,95 @@ pub enum Tail {
     Nothing,
 }
 
-// Nothing was read yet.
-pub fn start() -> Cursor
-    ensures { (result.from ≡ 0) × (result.have ≡ 0) × (result.passing ≡ false) }
+// The place of the first newline.
+fn newline_in(bytes: &[u8]) -> Option<usize>
+    ensures { result ≡ position (λ b. b == 10) bytes.now }
 {
-    Cursor {
-        from: 0,
-        have: 0,
-        passing: false,
-    }
+    bytes.iter().position(|byte| *byte == b'\n')
 }
 
-// The place of the first newline from `from` on, or `have` where there is none before it.
-fn newline_in(buf: &[u8], from: usize, have: usize) -> usize
-    requires { (from ≤ have) × (have ≤ length buf.now) }
-    ensures { FirstNewline buf.now from have result }
-{
-    let mut i = from;
-    while i < have {
-        if buf[i] == b'\n' {
-            return i;
-        }
-        i += 1;
-    }
-    i
-}
+impl Cursor {
+    ghost use Rattle.input.specs.Lines.{Within, Handed, Brought, Gave, tail_of};
 
-// Moves the bytes from `from` up to `have` to the buffer's start.
-fn shift(buf: &mut [u8], from: usize, have: usize)
-    requires { (from ≤ have) × (have ≤ length buf.old) }
-    ensures { take (have - from) buf.new ≡ part buf.old from have }
-{
-    let n = have - from;
-    let mut i = 0;
-    while i < n {
-        buf[i] = buf[from + i];
-        i += 1;
-    }
-}
-
-// The next line of what is left. Where no line ends there, what is left is moved to the buffer's start, for more to be
-// read behind it; where it fills the buffer, the line is too long.
-pub fn next(buf: &mut [u8], c: Cursor) -> Line
-    requires { Within c buf.old × (0 < length buf.old) }
-    ensures { Handed buf.old c buf.new result }
-{
-    let from = c.from;
-    let have = c.have;
-    let end = newline_in(buf, from, have);
-    if end < have {
-        let rest = Cursor {
-            from: end + 1,
-            have,
+    // Nothing was read yet.
+    pub fn start() -> Self
+        ensures { (result.from ≡ 0) × (result.have ≡ 0) × (result.passing ≡ false) }
+    {
+        Cursor {
+            from: 0,
+            have: 0,
             passing: false,
-        };
-        if c.passing {
-            return Line::TooLong(rest);
         }
-        return Line::At { from, end, rest };
     }
-    let n = have - from;
-    if c.passing {
-        return Line::More(Cursor {
+
+    // The next line of what is left. Where no line ends there, what is left is moved to the buffer's start, for more to
+    // be read behind it; where it fills the buffer, the line is too long.
+    pub fn next_line(self, buf: &mut [u8]) -> Line
+        requires { Within self buf.old × (0 < length buf.old) }
+        ensures { Handed buf.old self buf.new result }
+    {
+        let Cursor {
+            from,
+            have,
+            passing,
+        } = self;
+        if let Some(bytes) = newline_in(&buf[from..have]) {
+            let end = from + bytes;
+            let rest = Cursor {
+                from: end + 1,
+                have,
+                passing: false,
+            };
+            if passing {
+                return Line::TooLong(rest);
+            }
+            return Line::At { from, end, rest };
+        }
+        let bytes = have - from;
+        if passing || bytes == buf.len() {
+            return Line::More(Cursor {
+                from: 0,
+                have: 0,
+                passing: true,
+            });
+        }
+        buf.copy_within(from..have, 0);
+        Line::More(Cursor {
             from: 0,
-            have: 0,
-            passing: true,
-        });
+            have: bytes,
+            passing: false,
+        })
     }
-    if n == buf.len() {
-        return Line::More(Cursor {
-            from: 0,
-            have: 0,
-            passing: true,
-        });
+
+    // Reads once, behind what is left. Without a byte more the input has ended.
+    pub fn read<R: Read>(self, reader: &mut R, buf: &mut [u8]) -> io::Result<Option<Self>>
+        requires { Within self buf.old × (self.have < length buf.old) }
+        ensures brought { Brought buf.old self buf.new result }
+        ensures given { Gave (R.remaining reader.old) (R.remaining reader.new) self buf.new result }
+    {
+        let bytes = reader.read(&mut buf[self.have..])?;
+        if bytes == 0 {
+            return Ok(None);
+        }
+        Ok(Some(Cursor {
+            have: self.have + bytes,
+            ..self
+        }))
     }
-    shift(buf, from, have);
-    Line::More(Cursor {
-        from: 0,
-        have: n,
-        passing: false,
-    })
-}
 
-// What a read's answer means.
-fn meant(got: io::Result<usize>, c: Cursor) -> Arrival
-    requires { IfOk got (λ n. c.have + n ≤ 18446744073709551615) }
-    ensures { result ≡ arrival_of got c }
-{
-    let n = match got {
-        Ok(n) => n,
-        Err(e) => return Arrival::Failed(e),
-    };
-    if n == 0 {
-        return Arrival::Ended;
-    }
-    Arrival::Came(Cursor {
-        from: c.from,
-        have: c.have + n,
-        passing: c.passing,
-    })
-}
-
-// Reads once, behind what is left.
-pub fn read<R: Read>(reader: &mut R, buf: &mut [u8], c: Cursor) -> Arrival
-    requires { Within c buf.old × (c.have < length buf.old) }
-    ensures brought { Brought buf.old c buf.new result }
-    ensures given { Gave (R.remaining reader.old) (R.remaining reader.new) c buf.new result }
-{
-    let at = c.have;
-    let got = reader.read(&mut buf[at..]);
-    meant(got, c)
-}
-
-// What is left where the input has ended: a last line may lack its newline.
-pub fn last(c: Cursor) -> Tail
-    ensures { result ≡ tail_of c }
-{
-    let from = c.from;
-    let end = c.have;
-    if c.passing {
-        Tail::TooLong
-    } else if from == end {
-        Tail::Nothing
-    } else {
-        Tail::At { from, end }
+    // What is left where the input has ended: a last line may lack its newline.
+    pub fn last(self) -> Tail
+        ensures { result ≡ tail_of self }
+    {
+        if self.passing {
+            Tail::TooLong
+        } else if self.from == self.have {
+            Tail::Nothing
+        } else {
+            Tail::At {
+                from: self.from,
+                end: self.have,
+            }
+        }
     }
 }

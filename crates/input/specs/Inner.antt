@@ -1,2 +1,0 @@
--- What functions say to one another: nobody has to believe it, as what a call promises does not cite it.
-pub mod Search
