@@ -1,4 +1,4 @@
-// T_2, T_4, T_8, T_16 and T_32, a line for each row. Nothing but data.
+// T_2, T_4, T_8, T_16 and T_32, each by rows. Nothing but data.
 pub const MATRICES: [i8; 1364] = [
     // T_2
     64, 64, 64, -64,
@@ -73,22 +73,22 @@ pub const MATRICES: [i8; 1364] = [
     13, -4,
 ];
 
-// The first halves of the odd rows of T_4, by columns: a line for each column.
+// The first halves of the odd rows of T_4, by columns.
 pub const ODD_2: [i32; 4] = [84, 35, 35, -84];
 
-// The first halves of the odd rows of T_8, by columns: a line for each column.
+// The first halves of the odd rows of T_8, by columns.
 pub const ODD_4: [i32; 16] = [
     89, 75, 50, 18, 75, -18, -89, -50, 50, -89, 18, 75, 18, -50, 75, -89,
 ];
 
-// The first halves of the odd rows of T_16, by columns: a line for each column.
+// The first halves of the odd rows of T_16, by columns.
 pub const ODD_8: [i32; 64] = [
     90, 87, 80, 70, 57, 43, 26, 9, 87, 57, 9, -43, -80, -90, -70, -26, 80, 9, -70, -87, -26, 57,
     90, 43, 70, -43, -87, 9, 90, 26, -80, -57, 57, -80, -26, 90, -9, -87, 43, 70, 43, -90, 57, 26,
     -87, 70, 9, -80, 26, -70, 90, -80, 43, 9, -57, 87, 9, -26, 43, -57, 70, -80, 87, -90,
 ];
 
-// The first halves of the odd rows of T_32, by columns: a line for each column.
+// The first halves of the odd rows of T_32, by columns.
 pub const ODD_16: [i32; 256] = [
     90, 90, 88, 85, 82, 78, 73, 67, 61, 54, 47, 39, 30, 22, 13, 4, 90, 82, 67, 47, 22, -4, -30,
     -54, -73, -85, -90, -88, -78, -61, -39, -13, 88, 67, 30, -13, -54, -82, -90, -78, -47, -4, 39,

@@ -1,6 +1,6 @@
 -- `butterfly::add_times` meets its contract: the entries before k have been added to, those from k on are as
 -- they were.
-use Rattle.std.proofs.Common.{arith, rules, sym, ◌∙◌, ◌≡◌, ℕ, ◌+◌, ◌*◌, ◌^◌, ◌<◌, map, length, ap}
+use Rattle.std.proofs.Common.{arith, rules, sym, ◌∙◌, ◌≡◌, ◌+◌, ◌*◌, ◌^◌, ◌<◌, map, ap}
 use Rattle.std.proofs.lemmas.List.{get_or-map}
 use lib.Seq.{get_or-set_other}
 use lib.IntN.{ℤ, pos, nat_abs, ◌+ℤ◌, ◌*ℤ◌}

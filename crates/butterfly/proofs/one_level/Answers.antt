@@ -1,7 +1,6 @@
 -- `butterfly::one_level` meets its contract: the level's law at what `fold` and `odd_half` left.
-use Rattle.std.proofs.Common.{arith, rules, ◌≡◌, ◌∙◌, ◌+◌, ◌-◌, ap, map, List, length}
+use Rattle.std.proofs.Common.{arith, ◌∙◌, ap, map, List, length}
 use Rattle.std.proofs.lemmas.List.{map-id, length-map, length-replicate}
-use borrow.Rule.Slice.PartMut.{put_mid}
 use lib.IntN.{ℤ, pos}
 use Rattle.integers.specs.Sum.{at}
 use Rattle.butterfly.proofs.HalfLine.{Taken, table_long, differences_few, odd_half_fits, halved}

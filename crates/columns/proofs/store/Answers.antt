@@ -1,5 +1,5 @@
 -- `columns::store` meets its contract: the first k entries stand in their places.
-use Rattle.std.proofs.Common.{arith, rules, get_or, length, ◌∙◌, ◌≡◌, ◌<◌, ◌≤◌, ◌*◌, ◌+◌, ap, subst}
+use Rattle.std.proofs.Common.{arith, get_or, length, ◌≡◌, ◌≤◌, ◌*◌, ◌+◌, subst}
 use Rattle.std.proofs.Math.Nat.{mul-le-mul_right}
 use prog.Memory.{size}
 use denote.Param.{layout}

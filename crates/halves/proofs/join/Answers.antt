@@ -18,5 +18,5 @@ loop-i-preserved c =
     let q = at c.args.q.now i in
     let fp : SFits w32 p = search rules in
     let fq : SFits w32 q = search rules in
-      filled_more (pos 0) l.row (λ j. at c.args.p.now j +ℤ half (at c.args.q.now j)) i _ (omega arith)
-          (join_is p q fp fq (c.requires.by_index i (omega arith))) l.invariant
+    filled_more (pos 0) l.row (λ j. at c.args.p.now j +ℤ half (at c.args.q.now j)) i _ (omega arith)
+    (join_is p q fp fq (c.requires.by_index i (omega arith))) l.invariant

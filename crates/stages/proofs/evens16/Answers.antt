@@ -1,6 +1,6 @@
 -- `stages::evens16` meets its contract: before the turn j the first j lines stand in the even rows, and the
 -- odd rows are kept.
-use Rattle.std.proofs.Common.{◌≡◌, ◌∙◌, ℕ, ◌+◌, ◌*◌, length, arith}
+use Rattle.std.proofs.Common.{◌∙◌, ◌+◌, ◌*◌, arith}
 use Rattle.integers.specs.Sum.{at}
 use Rattle.tables.specs.Matrix.{matrix}
 use Rattle.butterfly.specs.Inner.Lines.{place}

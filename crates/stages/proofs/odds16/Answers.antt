@@ -1,7 +1,7 @@
 -- `stages::odds16` meets its contract: before the turn j the first j lines stand in the odd rows.
-use Rattle.std.proofs.Common.{◌≡◌, ◌∙◌, ℕ, ◌+◌, ◌*◌, length, map, arith, ap, subst}
+use Rattle.std.proofs.Common.{◌≡◌, ◌∙◌, ℕ, ◌+◌, ◌*◌, length, map, arith, subst}
 use Rattle.std.proofs.lemmas.List.{map-id}
-use lib.IntN.{ℤ, pos}
+use lib.IntN.{pos}
 use Rattle.integers.specs.Sum.{at}
 use Rattle.tables.specs.Matrix.{matrix}
 use Rattle.butterfly.proofs.HalfLine.{Taken, odd_half_fits, odds_held}
