@@ -11,12 +11,8 @@ pub fn widen(block: &[i16], wide: &mut [i32])
     ensures { (i : ℕ) → i < length block.now
         → at wide.new i ≡ at block.now i }
 {
-    let n = block.len();
-    let mut i: usize = 0;
-    while i < n {
-        let v = block[i] as i32;
-        wide[i] = v;
-        i += 1;
+    for (i, v) in block.iter().enumerate() {
+        wide[i] = i32::from(*v);
     }
 }
 
@@ -28,11 +24,7 @@ pub fn settle(sums: &[i32], shift: u32, block: &mut [i16])
         → at block.new i ≡ rounded (at sums.now i) shift }
 {
     let half = 1i32 << (shift - 1);
-    let n = sums.len();
-    let mut i: usize = 0;
-    while i < n {
-        let z = sums[i];
-        block[i] = ((z + half) >> shift) as i16;
-        i += 1;
+    for (i, z) in sums.iter().enumerate() {
+        block[i] = ((*z + half) >> shift) as i16;
     }
 }

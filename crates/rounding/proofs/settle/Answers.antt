@@ -1,6 +1,5 @@
 -- `rounding::settle` meets its contract: the first i sums are rounded.
 use native.Mathlib.Omega.{arith}
-use lib.ListN.{length-set}
 use lib.IntN.{pos}
 use Rattle.integers.specs.Sum.{at}
 use Rattle.integers.proofs.Fill.{filled_more}
@@ -11,10 +10,6 @@ use Rattle.rounding.proofs.settle.Goals as goal
 pub loop-i-preserved : goal.loop-i-preserved
 loop-i-preserved c =
     let l = c.loop-i in
-    let z = at c.args.sums.now l.i in (
-      omega arith,
-      simp length-set l.invariant.1,
-      filled_more (pos 0) l.block (λ j. rounded (at c.args.sums.now j) c.args.shift) l.i _ (omega arith)
-          (result_is z c.args.shift c.requires.block_len.1 c.requires.block_len.2
-          (c.requires.by_index l.i (omega arith))) l.invariant.2,
-    )
+    filled_more (pos 0) l.block (λ j. rounded (at c.args.sums.now j) c.args.shift) l.i _ (omega arith)
+    (result_is (at c.args.sums.now l.i) c.args.shift c.requires.block_len.1 c.requires.block_len.2
+    (c.requires.by_index l.i (omega arith))) l.invariant

@@ -1,7 +1,4 @@
 -- `rounding::settle` meets its contract: the first i sums are rounded.
-use mathlib.Core.Path.{◌≡◌}
-use Prim.Native.Nat.{◌-◌, ◌≤◌}
-use lib.ListN.{length}
 use lib.IntN.{pos}
 use Rattle.integers.specs.Sum.{at}
 use Rattle.integers.proofs.Fill.{Filled}
@@ -9,8 +6,4 @@ use Rattle.integers.specs.Floor.{rounded}
 use Rattle.rounding.proofs.settle.Given as goal
 
 abbrev pub invariant-loop-i : goal.invariant-loop-i
-invariant-loop-i l =
-    (l.i ≤ length l.sums) × (length l.block ≡ length l.initial.block) × Filled (pos 0) l.block (λ j. rounded (at l.sums j) l.shift) l.i
-
-abbrev pub decreases-loop-i : goal.decreases-loop-i
-decreases-loop-i l = length l.sums - l.i
+invariant-loop-i l = Filled (pos 0) l.block (λ j. rounded (at l.sums j) l.shift) l.i
