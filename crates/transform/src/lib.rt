@@ -16,13 +16,9 @@ mod block;
 pub fn has_wild(block: &[i16]) -> bool
     ensures { result ≡ some wild block.now }
 {
-    let n = block.len();
     let mut found = false;
-    let mut i: usize = 0;
-    while i < n {
-        let v = block[i];
-        found = found | (v < -1023) | (1023 < v);
-        i += 1;
+    for v in block {
+        found |= (*v < -1023) | (1023 < *v);
     }
     found
 }
@@ -32,10 +28,7 @@ pub fn trans(block: &mut [i16], log2_w: usize, log2_h: usize) -> Result<(), Refu
     ensures answer { verdict_outcome result ≡ trans_verdict (called block.old log2_w log2_h) }
     ensures buffer { block.new ≡ trans_buffer (called block.old log2_w log2_h) }
 {
-    if no_side(log2_w) {
-        return Err(Refusal::Side);
-    }
-    if no_side(log2_h) {
+    if no_side(log2_w) || no_side(log2_h) {
         return Err(Refusal::Side);
     }
     let n = side(log2_w) * side(log2_h);

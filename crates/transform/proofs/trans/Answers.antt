@@ -15,6 +15,7 @@ use Rattle.transform.specs.Coefficients.{coefficients}
 use Rattle.transform.proofs.Verdict.{no_width, no_height, too_short, too_wild, no_fault, changed}
 use Rattle.transform.proofs.Verdict.{coefficients_front}
 use Rattle.transform.proofs.trans.Goals as goal
+use Rattle.transform.proofs.trans.Goals.{then-no_side-via-then-no_side, then-no_side-via-else-no_side+then-no_side-2}
 
 -- how many places the block has
 area : (w h lw lh : ℕ) → w ≡ 2 ^ lw → h ≡ 2 ^ lh → w * h ≡ 2 ^ lw * 2 ^ lh
@@ -23,22 +24,22 @@ area w h lw lh ew eh = ap (λ (m : ℕ). m * h) ew ∙ ap (λ (m : ℕ). 2 ^ lw 
 pub returns-then-no_side : goal.returns-then-no_side
 returns-then-no_side c =
     let a = c.args in
-    let e = no_width a.block.now a.log2_w a.log2_h (sym c.no_side.ensures ∙ c.if-no_side.true) in
-    record { answer = e.0; buffer = e.1 }
-
-pub returns-then-no_side-2 : goal.returns-then-no_side-2
-returns-then-no_side-2 c =
-    let a = c.args in
-    let e = no_height a.block.now a.log2_w a.log2_h (sym c.no_side.ensures ∙ c.if-no_side.false)
-    (sym c.no_side-2.ensures ∙ c.if-no_side-2.true) in
-    record { answer = e.0; buffer = e.1 }
+    elim c.then-no_side.branch [
+      | then-no_side-via-then-no_side w ↦
+          let e = no_width a.block.now a.log2_w a.log2_h (sym c.no_side.ensures ∙ w.if-no_side.true) in
+          record { answer = e.0; buffer = e.1 }
+      | then-no_side-via-else-no_side+then-no_side-2 w ↦
+          let e = no_height a.block.now a.log2_w a.log2_h (sym c.no_side.ensures ∙ w.if-no_side.false)
+          (sym w.no_side-else-no_side.ensures ∙ w.if-no_side-2.true) in
+          record { answer = e.0; buffer = e.1 }
+    ]
 
 pub returns-then-block-n : goal.returns-then-block-n
 returns-then-block-n c =
     let a = c.args in
     let r = a.block.now in
     let is = area c.side.result c.side-2.result a.log2_w a.log2_h c.side.ensures.0 c.side-2.ensures.0 in
-    let e = too_short r a.log2_w a.log2_h (sym c.no_side.ensures ∙ c.if-no_side.false) (sym c.no_side-2.ensures ∙ c.if-no_side-2.false)
+    let e = too_short r a.log2_w a.log2_h (sym c.no_side.ensures ∙ c.if-no_side.false) (sym c.no_side-else-no_side.ensures ∙ c.if-no_side-2.false)
     (subst (λ (m : ℕ). ltb (length r) m ≡ true) is (lt-ltb (length r) _ c.if-block-n.true)) in
     record { answer = e.0; buffer = e.1 }
 
@@ -47,7 +48,7 @@ returns-then-has_wild c =
     let a = c.args in
     let r = a.block.now in
     let is = area c.side.result c.side-2.result a.log2_w a.log2_h c.side.ensures.0 c.side-2.ensures.0 in
-    let e = too_wild r a.log2_w a.log2_h (sym c.no_side.ensures ∙ c.if-no_side.false) (sym c.no_side-2.ensures ∙ c.if-no_side-2.false)
+    let e = too_wild r a.log2_w a.log2_h (sym c.no_side.ensures ∙ c.if-no_side.false) (sym c.no_side-else-no_side.ensures ∙ c.if-no_side-2.false)
     (subst (λ (m : ℕ). ltb (length r) m ≡ false) is (le-ltb (length r) _ c.if-block-n.false))
     (subst (λ (m : ℕ). some wild (take m r) ≡ true) is (sym c.has_wild.ensures ∙ c.if-has_wild.true)) in
     record { answer = e.0; buffer = e.1 }
@@ -69,7 +70,7 @@ returns c =
     let lh = a.log2_h in
     let n = c.side.result * c.side-2.result in
     let is = area c.side.result c.side-2.result a.log2_w a.log2_h c.side.ensures.0 c.side-2.ensures.0 in
-    let yes = no_fault r lw lh (sym c.no_side.ensures ∙ c.if-no_side.false) (sym c.no_side-2.ensures ∙ c.if-no_side-2.false)
+    let yes = no_fault r lw lh (sym c.no_side.ensures ∙ c.if-no_side.false) (sym c.no_side-else-no_side.ensures ∙ c.if-no_side-2.false)
     (subst (λ (m : ℕ). ltb (length r) m ≡ false) is (le-ltb (length r) _ c.if-block-n.false))
     (subst (λ (m : ℕ). some wild (take m r) ≡ false) is (sym c.has_wild.ensures ∙ c.if-has_wild.false)) in
     record {
