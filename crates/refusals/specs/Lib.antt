@@ -2,3 +2,4 @@ pub mod Sides
 pub mod Numbers
 pub mod Faults
 pub mod Three
+pub mod Ranges

@@ -4,3 +4,7 @@ use Rattle.std.specs.Prelude.{ℕ}
 
 abbrev pub most_log2 : ℕ
 most_log2 = 5
+
+-- the largest QP
+abbrev pub most_qp : ℕ
+most_qp = 63

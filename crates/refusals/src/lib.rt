@@ -3,6 +3,8 @@
 // comes from the list of its faults: it is the first that holds.
 #![tactic(auto)]
 
+pub mod ranges;
+
 ghost use Rattle.std.specs.Prelude.{◌≡◌, ◌^◌, ◌≤◌};
 ghost use Rattle.refusals.specs.Numbers.{number_of, component_of};
 ghost use Rattle.refusals.specs.Three.{part_of};
