@@ -132,7 +132,8 @@ largest darkening of a sample in the whole {darkest}.
 fn put_proved<W: Print>(out: &W, height: Option<u32>) -> io::Result<()> {
     match height {
         Some(height) => print!(out;
-            "No sample of an accepted block can be off by more than the height, {height}: that is proved, before clipping
+            "No sample of an accepted block can be off by more than the height, {height}: \
+            that is proved, before clipping
 and any filter, with the picture's last column and row repeated outside.
 "
         ),
