@@ -1,4 +1,3 @@
 pub mod Level
-pub mod Step
 pub mod Pair
 pub mod Line

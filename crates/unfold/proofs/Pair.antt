@@ -8,35 +8,24 @@ use lib.ListN.{length, set, length-set}
 use lib.Seq.{get_or-set_same, get_or-set_other}
 use lib.IntN.{ℤ, pos, nat_abs, ◌+ℤ◌, ◌-ℤ◌, ◌*ℤ◌}
 use mir.Syntax.{w16, w32}
-use mir.Val.{SFits, to_z, of_z}
-use mir.Facts.{to_z-of_z}
+use mir.Val.{SFits}
 use Rattle.integers.specs.Sum.{at}
 use Rattle.integers.proofs.Magnitude.{magnitude-*}
-use Rattle.integers.proofs.Fit.{fits, wider, magnitude_of}
+use Rattle.integers.proofs.Fit.{fits, magnitude_of}
 use Rattle.butterfly.proofs.Pair.{sum_is, difference_is}
 use Rattle.butterfly.specs.Inner.Lines.{line_at}
 use Rattle.tables.specs.Matrix.{matrix}
 use Rattle.unfold.specs.Inner.Back.{value_at, Back}
-use Rattle.unfold.proofs.Step.{widened}
 use Rattle.unfold.proofs.Level.{value_bound}
 
 -- 64 times f p q, f the sum or the difference
 module _ (f : ℤ → ℤ → ℤ) (p q : ℤ) (fp : SFits w16 p) (fq : SFits w16 q) (hf : nat_abs (f p q) ≤ nat_abs p + nat_abs q) where
-  both : SFits w32 (f p q)
-  both = fits (f p q) (omega (arith, magnitude_of p fp, magnitude_of q fq))
+  pub pair_fits : SFits w32 (f p q)
+  pair_fits = fits (f p q) (omega (arith, magnitude_of p fp, magnitude_of q fq))
 
-  times : SFits w32 (pos 64 *ℤ f p q)
-  times =
+  pub sixty_four_fits : SFits w32 (pos 64 *ℤ f p q)
+  sixty_four_fits =
       fits (pos 64 *ℤ f p q) (omega (arith, magnitude-* (pos 64) (f p q), magnitude_of p fp, magnitude_of q fq))
-
-  pub pair_fits : SFits w32 (f (widened p) (widened q))
-  pair_fits = let a = wider p fp in let b = wider q fq in simp to_z-of_z both
-
-  pub sixty_four_fits : SFits w32 (pos 64 *ℤ to_z w32 (of_z w32 (f (widened p) (widened q))))
-  sixty_four_fits = let a = wider p fp in let b = wider q fq in let c = both in simp to_z-of_z times
-
-  pub sixty_four_is : to_z w32 (of_z w32 (pos 64 *ℤ to_z w32 (of_z w32 (f (widened p) (widened q))))) ≡ pos 64 *ℤ f p q
-  sixty_four_is = let a = wider p fp in let b = wider q fq in let c = both in let d = times in simp to_z-of_z
 
 -- T_2 read by columns
 forward_is_back : (x : List ℤ) (n : ℕ) → n < 2 → line_at matrix 2 x n ≡ value_at matrix 2 (at x) n

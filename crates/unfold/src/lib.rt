@@ -3,62 +3,24 @@
 // they fit.
 #![tactic(auto)]
 
-ghost use Rattle.std.specs.Prelude.{◌≡◌, ℕ, ◌+◌, ◌*◌, ◌^◌, ◌<◌, ◌≤◌, length, pos, nat_abs, ◌+ℤ◌, ◌*ℤ◌};
+ghost use Rattle.std.specs.Prelude.{◌≡◌, ℕ, ◌+◌, ◌^◌, ◌<◌, ◌≤◌, length, map, nat_abs, ◌*ℤ◌};
 ghost use Rattle.integers.specs.Sum.{sum_ℤ, at};
+ghost use Rattle.refusals.specs.Sides.{most_log2};
 ghost use Rattle.tables.specs.Inner.OddRows.{odd_rows};
-ghost use Rattle.butterfly.specs.Inner.Lines.{gained, spent};
-ghost use Rattle.unfold.specs.Inner.Back.{Parted, Spread, Back};
+ghost use Rattle.unfold.specs.Inner.Back.{Parted, Halves, Spread, Back};
+
+use butterfly::odd_half;
+use tables::number::Number;
+use tables::odd_rows::OddRows;
 
 // The even places of x and the odd ones; also of many lines at once, as each has an even length.
 pub fn part(x: &[i16], e: &mut [i16], o: &mut [i16])
     requires { (length e.old + length e.old ≡ length x.now) × (length o.old ≡ length e.old) }
     ensures { Parted x.now e.new o.new }
 {
-    let h = e.len();
-    let mut k: usize = 0;
-    while k < h {
-        let p = x[2 * k];
-        let q = x[2 * k + 1];
-        e[k] = p;
-        o[k] = q;
-        k += 1;
-    }
-}
-
-// Adds v times t to b.
-fn add_times(t: &[i16], v: i16, b: &mut [i32])
-    requires t_len { length t.now ≡ length b.old }
-    requires by_index { (k : ℕ) → k < length b.old → nat_abs (at b.old k) + nat_abs (at t.now k) * nat_abs v < 2 ^ 31 }
-    ensures { (k : ℕ) → k < length b.old
-        → at b.new k ≡ at b.old k +ℤ at t.now k *ℤ v }
-{
-    let n = b.len();
-    let mut k: usize = 0;
-    while k < n {
-        let s = b[k];
-        let x = t[k] as i32;
-        b[k] = s + x * (v as i32);
-        k += 1;
-    }
-}
-
-// What the odd coefficients give: each of them times its line of the table.
-pub fn odd_half(t: &[i16], o: &[i16], b: &mut [i32])
-    requires o_len { (length o.now ≡ length b.old) × (length o.now ≤ 16)
-        × (length o.now * length o.now ≤ length t.now) }
-    requires by_index { (k : ℕ) → at b.old k ≡ pos 0 }
-    requires by_index_2 { (k : ℕ) → k < length b.old → spent t.now o.now (length o.now) k < 2 ^ 31 }
-    ensures { (k : ℕ) → k < length b.old
-        → at b.new k ≡ gained t.now o.now (length o.now) k }
-{
-    let h = o.len();
-    let mut n: usize = 0;
-    while n < h {
-        let v = o[n];
-        let r = n * h;
-        let e = r + h;
-        add_times(&t[r..e], v, b);
-        n += 1;
+    for k in 0..e.len() {
+        e[k] = x[2 * k];
+        o[k] = x[2 * k + 1];
     }
 }
 
@@ -68,15 +30,26 @@ pub fn dot16(t: &[i16], o: &[i16]) -> i32
     requires by_index { (k : ℕ) → k < 16 → nat_abs (at t.now k) ≤ 90 }
     ensures { result ≡ sum_ℤ 16 (λ k. at t.now k *ℤ at o.now k) }
 {
-    let mut s = 0i32;
-    let mut k: usize = 0;
-    while k < 16 {
-        let x = t[k] as i32;
-        let y = o[k] as i32;
-        s = s + x * y;
-        k += 1;
+    let mut sum = 0i32;
+    for k in 0..16 {
+        sum += i32::from(t[k]) * i32::from(o[k]);
     }
-    s
+    sum
+}
+
+// The two halves of a line of side 2H: its even coefficients, and what the odd ones give.
+pub fn halves<const H: usize>(t: &[i16], x: &[i16]) -> ([i16; H], [i32; H])
+    ghost l: { ℕ }
+    requires side { (H ≡ 2 ^ l) × (l < most_log2) × (map ⟦<i16 as Number>⟧.value t.now ≡ odd_rows H) }
+    requires x_len { length x.now ≡ H + H }
+    ensures { Halves l x.now result.0 result.1 }
+{
+    let mut e = [0i16; H];
+    let mut o = [0i16; H];
+    let mut b = [0i32; H];
+    part(x, &mut e, &mut o);
+    odd_half(t, &o, &mut b);
+    (e, b)
 }
 
 // The values of the even half with what the odd one gives added, and from the end taken away.
@@ -86,13 +59,9 @@ fn spread(e: &[i32], b: &[i32], row: &mut [i32])
     ensures { Spread e.now b.now row.new }
 {
     let h = e.len();
-    let mut n: usize = 0;
-    while n < h {
-        let p = e[n];
-        let q = b[n];
-        row[n] = p + q;
-        row[2 * h - 1 - n] = p - q;
-        n += 1;
+    for n in 0..h {
+        row[n] = e[n] + b[n];
+        row[2 * h - 1 - n] = e[n] - b[n];
     }
 }
 
@@ -100,36 +69,42 @@ pub fn back2(x: &[i16], row: &mut [i32])
     requires { (length x.now ≡ 2) × (length row.old ≡ 2) }
     ensures { Back 1 x.now row.new }
 {
-    let p = x[0] as i32;
-    let q = x[1] as i32;
+    let p = i32::from(x[0]);
+    let q = i32::from(x[1]);
     row[0] = 64 * (p + q);
     row[1] = 64 * (p - q);
 }
 
-pub fn back4(t2: &[i16; 4], x: &[i16], row: &mut [i32])
-    requires { (length x.now ≡ 4) × (length row.old ≡ 4) × (t2.now ≡ odd_rows 2) }
+pub fn back4(rows: &OddRows<i16>, x: &[i16], row: &mut [i32])
+    requires { (length x.now ≡ 4) × (length row.old ≡ 4) }
     ensures { Back 2 x.now row.new }
 {
-    let mut e = [0i16; 2];
-    let mut o = [0i16; 2];
-    let mut b = [0i32; 2];
-    let mut r = [0i32; 2];
-    part(x, &mut e, &mut o);
-    odd_half(t2, &o, &mut b);
-    back2(&e, &mut r);
-    spread(&r, &b, row);
+    let (e, b) = halves::<2>(&rows.two, x);
+    let mut values = [0i32; 2];
+    back2(&e, &mut values);
+    spread(&values, &b, row);
 }
 
-pub fn back8(t4: &[i16; 16], t2: &[i16; 4], x: &[i16], row: &mut [i32])
-    requires { (length x.now ≡ 8) × (length row.old ≡ 8) × (t4.now ≡ odd_rows 4) × (t2.now ≡ odd_rows 2) }
+pub fn back8(rows: &OddRows<i16>, x: &[i16], row: &mut [i32])
+    requires { (length x.now ≡ 8) × (length row.old ≡ 8) }
     ensures { Back 3 x.now row.new }
 {
-    let mut e = [0i16; 4];
-    let mut o = [0i16; 4];
-    let mut b = [0i32; 4];
-    let mut r = [0i32; 4];
-    part(x, &mut e, &mut o);
-    odd_half(t4, &o, &mut b);
-    back4(t2, &e, &mut r);
-    spread(&r, &b, row);
+    let (e, b) = halves::<4>(&rows.four, x);
+    let mut values = [0i32; 4];
+    back4(rows, &e, &mut values);
+    spread(&values, &b, row);
+}
+
+// A line of side 2^log2 that is no longer.
+#[inline(always)]
+pub fn back(log2: usize, rows: &OddRows<i16>, x: &[i16], row: &mut [i32])
+    requires side { (1 ≤ log2) × (log2 ≤ 3) }
+    requires x_len { (length x.now ≡ 2 ^ log2) × (length row.old ≡ 2 ^ log2) }
+    ensures { Back log2 x.now row.new }
+{
+    match log2 {
+        1 => back2(x, row),
+        2 => back4(rows, x, row),
+        _ => back8(rows, x, row),
+    }
 }

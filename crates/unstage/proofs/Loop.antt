@@ -1,6 +1,6 @@
--- The loop over the lines of a list, as a law over the side 2^l: what a turn asks of its line, and that with it one line
--- more stands in its column. Each loop over lines is these laws at its own l.
-use mathlib.Core.Path.{◌≡◌, refl, sym, ◌∙◌, ap, subst}
+-- The loop over the lines of a list, as a law over the side N = 2^l: with a turn one line more stands in its column.
+-- And what the halves of longer lines are.
+use mathlib.Core.Path.{◌≡◌, sym, ◌∙◌, ap, subst}
 use mathlib.Core.List.{List}
 use Prim.Native.Nat.{ℕ, ◌+◌, ◌*◌, ◌^◌, ◌<◌, ◌≤◌}
 use native.Mathlib.Nat.{mul-add}
@@ -17,7 +17,7 @@ use Rattle.stages.proofs.Columns.{line, line_at_lem}
 use Rattle.unfold.specs.Inner.Back.{value_at, odd_at, Parted, Back, most_value}
 use Rattle.unfold.proofs.Line.{coefficient_within}
 use Rattle.unstage.specs.Inner.Rows.{line_value, Small, Lines}
-use Rattle.unstage.proofs.Lines.{lines_none, lines_more, lines_all}
+use Rattle.unstage.proofs.Lines.{lines_more}
 
 -- the part that is handed on has the coefficients of line j
 pub line_values : (N : ℕ) (src : List ℤ) (j n : ℕ) → value_at matrix N (at (line N src j)) n ≡ line_value N src j n
@@ -26,62 +26,45 @@ line_values N src j n =
     sum_ext on_ℤ N (λ k. matrix N k n *ℤ at (line N src j) k) (λ k. matrix N k n *ℤ at src (j * N + k))
     (λ k hk. ap (λ (z : ℤ). matrix N k n *ℤ z) (line_at_lem N src j k hk))
 
--- what a store of b asks
-pub store_asks : (lines j m : ℕ) (b dst : List ℤ) → length b ≡ m → j < lines → m * lines ≤ length dst
-    → (j < lines) × (length b * lines ≤ length dst)
-store_asks lines j m b dst lb hj h = (hj, subst (λ (n : ℕ). n * lines ≤ length dst) (sym lb) h)
-
-module _ (l lines : ℕ) (src first : List ℤ) where
-  -- the first j lines stand in their columns
-  abbrev pub Passed : List ℤ → ℕ → Type 0
-  Passed dst j =
-      (j ≤ lines) × (length dst ≡ length first) × Lines (line_value (2 ^ l) src) most_value (2 ^ l) lines dst j
-
-  pub none_passed : Passed first 0
-  none_passed = (omega arith, refl, lines_none (line_value (2 ^ l) src) most_value (2 ^ l) lines first)
-
-  -- line j goes down its column from a row that holds its values
-  pub passed_more : (old new row : List ℤ) (j : ℕ) → j < lines → length new ≡ length old → length row ≡ 2 ^ l
-      → Back l (line (2 ^ l) src j) row → Placed lines j (length row) (at row) old new → Passed old j
-      → Passed new (j + 1)
-  passed_more old new row j hj ln lr back placed was = (
-    omega arith,
-    ln ∙ was.1,
+-- line j of side N = 2^l goes down its column from a row that holds its values
+pub values_more : (l N : ℕ) (side : N ≡ 2 ^ l) (src : List ℤ) (j lines : ℕ) (old new row : List ℤ) → j < lines
+    → length row ≡ N → Back l (line N src j) row → Placed lines j (length row) (at row) old new
+    → Lines (line_value (2 ^ l) src) most_value (2 ^ l) lines old j
+    → Lines (line_value (2 ^ l) src) most_value (2 ^ l) lines new (j + 1)
+values_more l N side src j lines old new row hj lr back placed =
     lines_more (line_value (2 ^ l) src) most_value (2 ^ l) lines old new (at row) j hj
-        (λ k hk. back.holds k hk ∙ line_values (2 ^ l) src j k) back.within
-        (subst (λ (m : ℕ). Placed lines j m (at row) old new) lr placed) was.2,
-  )
+    (λ k hk.
+    back.holds k hk
+    ∙ subst (λ (m : ℕ). value_at matrix (2 ^ l) (at (line m src j)) k ≡ line_value (2 ^ l) src j k) (sym side)
+    (line_values (2 ^ l) src j k))
+    back.within (subst (λ (m : ℕ). Placed lines j m (at row) old new) (lr ∙ side) placed)
 
-  pub all_passed : (dst : List ℤ) (j : ℕ) → lines ≤ j → Passed dst j
-      → Lines (line_value (2 ^ l) src) most_value (2 ^ l) lines dst lines
-  all_passed dst j h was = lines_all (line_value (2 ^ l) src) most_value (2 ^ l) lines dst j was.0 h was.2
-
--- ---- lines of side 2h by halves: e and o have the even and the odd coefficients of line j
-module _ (h : ℕ) (src : List ℤ) (j : ℕ) (e o : List ℤ) (le : length e ≡ h) (parted : Parted (line (h + h) src j) e o) where
-  pub odd_line : (n : ℕ) → odd_at matrix h (at o) n ≡ odd_at matrix h (λ k. at src (j * (h + h) + (2 * k + 1))) n
-  unfolding odd_at
-  odd_line n =
-      sum_ext on_ℤ h (λ k. matrix (h + h) (2 * k + 1) n *ℤ at o k)
-      (λ k. matrix (h + h) (2 * k + 1) n *ℤ at src (j * (h + h) + (2 * k + 1)))
-      (λ k hk.
-      ap (λ (z : ℤ). matrix (h + h) (2 * k + 1) n *ℤ z)
-      (parted.odds k (omega arith) ∙ line_at_lem (h + h) src j (2 * k + 1) (omega arith)))
-
-  pub even_line : (n : ℕ) → value_at matrix h (at e) n ≡ value_at matrix h (λ k. at src (j * (h + h) + 2 * k)) n
+-- ---- lines of side 2h by halves: the even coefficients of line j, or both halves of it
+module _ (h : ℕ) (src : List ℤ) (j : ℕ) where
+  pub even_line : (e o : List ℤ) → length e ≡ h → Parted (line (h + h) src j) e o → (n : ℕ)
+      → value_at matrix h (at e) n ≡ value_at matrix h (λ k. at src (j * (h + h) + 2 * k)) n
   unfolding value_at
-  even_line n =
+  even_line e o le parted n =
       sum_ext on_ℤ h (λ k. matrix h k n *ℤ at e k) (λ k. matrix h k n *ℤ at src (j * (h + h) + 2 * k))
       (λ k hk.
       ap (λ (z : ℤ). matrix h k n *ℤ z)
       (parted.evens k (omega arith) ∙ line_at_lem (h + h) src j (2 * k) (omega arith)))
 
+  pub odd_line : (n : ℕ) → odd_at matrix h (λ k. at (line (h + h) src j) (2 * k + 1)) n
+      ≡ odd_at matrix h (λ k. at src (j * (h + h) + (2 * k + 1))) n
+  unfolding odd_at
+  odd_line n =
+      sum_ext on_ℤ h (λ k. matrix (h + h) (2 * k + 1) n *ℤ at (line (h + h) src j) (2 * k + 1))
+      (λ k. matrix (h + h) (2 * k + 1) n *ℤ at src (j * (h + h) + (2 * k + 1)))
+      (λ k hk.
+      ap (λ (z : ℤ). matrix (h + h) (2 * k + 1) n *ℤ z) (line_at_lem (h + h) src j (2 * k + 1) (omega arith)))
+
   -- one line more is known to have 16 bits
-  pub small_more : Small (h + h) src j → Small (h + h) src (j + 1)
-  small_more was i k hi hk =
+  pub small_more : ((k : ℕ) → k < h + h → nat_abs (at (line (h + h) src j) k) ≤ 32768) → Small (h + h) src j
+      → Small (h + h) src (j + 1)
+  small_more small was i k hi hk =
       below_more (λ (i : ℕ). nat_abs (at src (i * (h + h) + k)) ≤ 32768) j (λ i hi. was i k hi hk)
-      (subst (λ (z : ℤ). nat_abs z ≤ 32768) (line_at_lem (h + h) src j k hk)
-      (coefficient_within h (line (h + h) src j) e o le parted k hk))
-      i hi
+      (subst (λ (z : ℤ). nat_abs z ≤ 32768) (line_at_lem (h + h) src j k hk) (small k hk)) i hi
 
 -- ---- all lines of side 2h in two parts at once: es and os have the even and the odd coefficients of every line
 module _ (h lines : ℕ) (src es os : List ℤ) (le : length es ≡ lines * h) (parted : Parted src es os) where

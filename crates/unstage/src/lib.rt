@@ -6,60 +6,28 @@
 ghost use Rattle.std.specs.Prelude.{◌≡◌, ℕ, ◌+◌, ◌-◌, ◌*◌, ◌^◌, ◌<◌, ◌≤◌, length, nat_abs};
 ghost use Rattle.integers.specs.Sum.{at};
 ghost use Rattle.refusals.specs.Sides.{most_log2};
-ghost use Rattle.tables.specs.Inner.OddRows.{odd_rows};
 ghost use Rattle.columns.specs.Inner.Placed.{Placed};
 ghost use Rattle.unfold.specs.Inner.Back.{Within, odd_at};
 ghost use Rattle.tables.specs.Matrix.{matrix};
 ghost use Rattle.unstage.specs.Inner.Rows.{Values, Small, Evens, Odds, Unfolded, RowsUnfolded};
 
 use columns::store;
-use unfold::{back2, back4, back8, dot16, odd_half, part};
+use tables::odd_rows::{OddRows, narrow_rows};
+use unfold::{back, back8, dot16, halves, part};
 
-fn lines2(lines: usize, src: &[i16], dst: &mut [i32])
-    requires { (lines ≤ 32) × (length src.now ≡ lines * 2) × (length dst.old ≡ 2 * lines) }
-    ensures { Values 1 lines src.now dst.new }
+// The lines of side N, 2^log2, where that is 8 at most.
+fn each_line<const N: usize>(log2: usize, lines: usize, src: &[i16], dst: &mut [i32])
+    requires side { (N ≡ 2 ^ log2) × (1 ≤ log2) × (log2 ≤ 3) × (lines ≤ 32) }
+    requires src_len { (length src.now ≡ lines * N) × (length dst.old ≡ N * lines) }
+    ensures { Values log2 lines src.now dst.new }
 {
-    let mut j: usize = 0;
-    while j < lines {
-        let a = j * 2;
-        let e = a + 2;
-        let mut row = [0i32; 2];
-        back2(&src[a..e], &mut row);
+    let rows = narrow_rows();
+    for j in 0..lines {
+        let a = j * N;
+        let e = a + N;
+        let mut row = [0i32; N];
+        back(log2, &rows, &src[a..e], &mut row);
         store(&row, dst, lines, j);
-        j += 1;
-    }
-}
-
-fn lines4(lines: usize, src: &[i16], dst: &mut [i32])
-    requires { (lines ≤ 32) × (length src.now ≡ lines * 4) × (length dst.old ≡ 4 * lines) }
-    ensures { Values 2 lines src.now dst.new }
-{
-    let t2 = tables::odd_rows::narrow_2();
-    let mut j: usize = 0;
-    while j < lines {
-        let a = j * 4;
-        let e = a + 4;
-        let mut row = [0i32; 4];
-        back4(&t2, &src[a..e], &mut row);
-        store(&row, dst, lines, j);
-        j += 1;
-    }
-}
-
-fn lines8(lines: usize, src: &[i16], dst: &mut [i32])
-    requires { (lines ≤ 32) × (length src.now ≡ lines * 8) × (length dst.old ≡ 8 * lines) }
-    ensures { Values 3 lines src.now dst.new }
-{
-    let t4 = tables::odd_rows::narrow_4();
-    let t2 = tables::odd_rows::narrow_2();
-    let mut j: usize = 0;
-    while j < lines {
-        let a = j * 8;
-        let e = a + 8;
-        let mut row = [0i32; 8];
-        back8(&t4, &t2, &src[a..e], &mut row);
-        store(&row, dst, lines, j);
-        j += 1;
     }
 }
 
@@ -70,11 +38,8 @@ fn store_up(b: &[i32], dst: &mut [i32], width: usize, c: usize)
         (λ k. at b.now (length b.now - 1 - k)) dst.old dst.new }
 {
     let n = b.len();
-    let mut k: usize = 0;
-    while k < n {
-        let v = b[n - 1 - k];
-        dst[k * width + c] = v;
-        k += 1;
+    for k in 0..n {
+        dst[k * width + c] = b[n - 1 - k];
     }
 }
 
@@ -84,18 +49,12 @@ fn odds16(lines: usize, src: &[i16], dst: &mut [i32])
     ensures odds { Odds 8 lines (λ j k. at src.now (j * 16 + (2 * k + 1))) dst.new }
     ensures small { Small 16 src.now lines }
 {
-    let t8 = tables::odd_rows::narrow_8();
-    let mut j: usize = 0;
-    while j < lines {
+    let rows = narrow_rows();
+    for j in 0..lines {
         let a = j * 16;
         let z = a + 16;
-        let mut e = [0i16; 8];
-        let mut o = [0i16; 8];
-        let mut b = [0i32; 8];
-        part(&src[a..z], &mut e, &mut o);
-        odd_half(&t8, &o, &mut b);
+        let (_evens, b) = halves::<8>(&rows.eight, &src[a..z]);
         store_up(&b, dst, lines, j);
-        j += 1;
     }
 }
 
@@ -103,19 +62,16 @@ fn evens16(lines: usize, src: &[i16], dst: &mut [i32])
     requires { (lines ≤ 32) × (length src.now ≡ lines * 16) × (length dst.old ≡ 8 * lines) }
     ensures { Evens 8 lines src.now dst.new }
 {
-    let t4 = tables::odd_rows::narrow_4();
-    let t2 = tables::odd_rows::narrow_2();
-    let mut j: usize = 0;
-    while j < lines {
+    let rows = narrow_rows();
+    for j in 0..lines {
         let a = j * 16;
         let z = a + 16;
         let mut e = [0i16; 8];
         let mut o = [0i16; 8];
         let mut row = [0i32; 8];
         part(&src[a..z], &mut e, &mut o);
-        back8(&t4, &t2, &e, &mut row);
+        back8(&rows, &e, &mut row);
         store(&row, dst, lines, j);
-        j += 1;
     }
 }
 
@@ -126,13 +82,11 @@ fn unfold_row(dst: &mut [i32], a: usize, c: usize, m: usize)
         → (nat_abs (at dst.old (a + i)) ≤ 2 ^ 29) × (nat_abs (at dst.old (c + i)) ≤ 2 ^ 29) }
     ensures { RowsUnfolded a c m dst.old dst.new }
 {
-    let mut i: usize = 0;
-    while i < m {
+    for i in 0..m {
         let p = dst[a + i];
         let q = dst[c + i];
         dst[a + i] = p + q;
         dst[c + i] = p - q;
-        i += 1;
     }
 }
 
@@ -141,12 +95,10 @@ fn unfold_rows(h: usize, lines: usize, dst: &mut [i32])
     requires { (h ≤ 16) × (lines ≤ 32) × (length dst.old ≡ (h + h) * lines) × Within (2 ^ 29) dst.old }
     ensures { Unfolded h lines dst.old dst.new }
 {
-    let mut n: usize = 0;
-    while n < h {
+    for n in 0..h {
         let a = n * lines;
         let c = (2 * h - 1 - n) * lines;
         unfold_row(dst, a, c, lines);
-        n += 1;
     }
 }
 
@@ -161,18 +113,15 @@ fn lines16(lines: usize, src: &[i16], dst: &mut [i32])
 }
 
 // What the odd coefficients o of one line of 32 give, down column c, the last first: a product at a time.
-fn dots(t: &[i16], o: &[i16], dst: &mut [i32], lines: usize, c: usize)
-    requires { (c < lines) × (length o.now ≡ 16) × (16 * lines ≤ length dst.old) × (t.now ≡ odd_rows 16) }
+fn dots(rows: &OddRows<i16>, o: &[i16], dst: &mut [i32], lines: usize, c: usize)
+    requires { (c < lines) × (length o.now ≡ 16) × (16 * lines ≤ length dst.old) }
     ensures { Placed lines c 16 (λ k. odd_at matrix 16 (at o.now) (15 - k)) dst.old
         dst.new }
 {
-    let mut k: usize = 0;
-    while k < 16 {
+    for k in 0..16 {
         let r = (15 - k) * 16;
         let e = r + 16;
-        let v = dot16(&t[r..e], o);
-        dst[k * lines + c] = v;
-        k += 1;
+        dst[k * lines + c] = dot16(&rows.sixteen[r..e], o);
     }
 }
 
@@ -182,13 +131,11 @@ fn odds32(lines: usize, os: &[i16], dst: &mut [i32])
         × Within 32768 os.now }
     ensures { Odds 16 lines (λ j k. at os.now (j * 16 + k)) dst.new }
 {
-    let t16 = tables::odd_rows::narrow_16();
-    let mut j: usize = 0;
-    while j < lines {
+    let rows = narrow_rows();
+    for j in 0..lines {
         let a = j * 16;
         let e = a + 16;
-        dots(&t16, &os[a..e], dst, lines, j);
-        j += 1;
+        dots(&rows, &os[a..e], dst, lines, j);
     }
 }
 
@@ -221,21 +168,11 @@ pub fn unstage(log2: usize, lines: usize, src: &[i16], dst: &mut [i32])
     requires src_len { (length src.now ≡ lines * 2 ^ log2) × (length dst.old ≡ 2 ^ log2 * lines) }
     ensures { Values log2 lines src.now dst.new }
 {
-    if log2 == 1 {
-        lines2(lines, src, dst);
-        return;
+    match log2 {
+        1 => each_line::<2>(1, lines, src, dst),
+        2 => each_line::<4>(2, lines, src, dst),
+        3 => each_line::<8>(3, lines, src, dst),
+        4 => lines16(lines, src, dst),
+        _ => lines32(lines, src, dst),
     }
-    if log2 == 2 {
-        lines4(lines, src, dst);
-        return;
-    }
-    if log2 == 3 {
-        lines8(lines, src, dst);
-        return;
-    }
-    if log2 == 4 {
-        lines16(lines, src, dst);
-        return;
-    }
-    lines32(lines, src, dst);
 }

@@ -1,64 +1,48 @@
--- `unfold::dot16` meets its contract: s is the sum of the first k products, each of a magnitude of at most 90·2^15.
-use mathlib.Core.Path.{◌≡◌, refl, ◌∙◌, ap}
-use mathlib.Core.List.{List}
-use Prim.Native.Nat.{ℕ, ◌+◌, ◌*◌, ◌^◌, ◌<◌, ◌≤◌}
+-- `unfold::dot16` meets its contract: with product k the sum still fits, and is that of k + 1 products.
+use mathlib.Core.Path.{◌≡◌, refl, ap, ◌∙◌}
+use Prim.Native.Nat.{ℕ, ◌+◌, ◌*◌, ◌<◌, ◌≤◌}
 use native.Mathlib.Nat.{mul-le-mul}
-use native.Mathlib.Omega.{arith}
-use borrow.Author.Rules.{rules}
+use Rattle.std.proofs.Common.{arith, rules}
+use Rattle.std.proofs.lemmas.Int.{to_z-of_z}
 use lib.IntN.{ℤ, nat_abs, ◌+ℤ◌, ◌*ℤ◌}
 use mir.Syntax.{w16, w32}
-use mir.Val.{SFits, to_z}
-use Rattle.integers.specs.Sum.{sum, sum_ℤ, on_ℤ, at}
+use mir.Val.{SFits, to_z, of_z}
+use Rattle.integers.specs.Sum.{sum, on_ℤ, at}
 use Rattle.integers.proofs.Magnitude.{magnitude-+, magnitude-*}
-use Rattle.integers.proofs.Fit.{magnitude_of}
+use Rattle.integers.proofs.Fit.{fits, magnitude_of}
 use Rattle.integers.proofs.Sums.{sum_more}
-use Rattle.unfold.proofs.Step.{product_fits, total_fits, total_is}
 use Rattle.unfold.proofs.dot16.Goals as goal
 
--- the sum of the first k products
-abbrev first : (t o : List ℤ) → ℕ → ℤ
-first t o k = sum_ℤ k (λ i. at t i *ℤ at o i)
+pub loop-k-init : goal.loop-k-init
+unfolding sum
+loop-k-init c = (refl, omega arith)
 
--- One turn: to what s says, the k products so far, comes that of p and q, which were 16 bits wide.
-module _ (s : ℤ) (k : ℕ) (p q : ℤ) (fq : SFits w16 q) (small : nat_abs p ≤ 90) (le : k < 16)
-    (so_far : nat_abs s ≤ k * 2949120) where
+-- to the k products so far comes that of p and q
+module _ (s : ℤ) (k : ℕ) (p q : ℤ) (fq : SFits w16 q) (small : nat_abs p ≤ 90) (so_far : nat_abs s ≤ k * 2949120) where
   product_small : nat_abs p * nat_abs q ≤ 2949120
   product_small = mul-le-mul small (magnitude_of q fq)
 
-  room : nat_abs s + nat_abs p * nat_abs q < 2 ^ 31
-  room = omega (arith, product_small)
+  product : SFits w32 (p *ℤ q)
+  product = fits (p *ℤ q) (omega (arith, product_small, magnitude-* p q))
+
+  total : k < 16 → SFits w32 (s +ℤ p *ℤ q)
+  total le = fits (s +ℤ p *ℤ q) (omega (arith, product_small, magnitude-* p q, magnitude-+ s (p *ℤ q)))
 
   total_small : nat_abs (s +ℤ p *ℤ q) ≤ (k + 1) * 2949120
   total_small = omega (arith, product_small, magnitude-+ s (p *ℤ q), magnitude-* p q)
 
-nothing : (t o : List ℤ) → to_z w32 0 ≡ first t o 0
-unfolding sum
-nothing t o = refl
-
-pub loop-k-init : goal.loop-k-init
-loop-k-init c = (omega arith, nothing c.args.t.now c.args.o.now, omega arith)
-
-pub overflow_mul-s : goal.overflow_mul-s
-overflow_mul-s c =
+pub overflow_add-sum : goal.overflow_add-sum
+overflow_add-sum c =
     let l = c.loop-k in
     let p = at c.args.t.now l.k in
     let q = at c.args.o.now l.k in
+    let s = to_z w32 l.sum-bits in
     let fp : SFits w16 p = search rules in
     let fq : SFits w16 q = search rules in
     let small = c.requires.by_index l.k (omega arith) in
-    let s = to_z w32 l.s-bits in
-    product_fits s p q fp fq (room s l.k p q fq small (omega arith) l.invariant.2)
-
-pub overflow_add-s : goal.overflow_add-s
-overflow_add-s c =
-    let l = c.loop-k in
-    let p = at c.args.t.now l.k in
-    let q = at c.args.o.now l.k in
-    let fp : SFits w16 p = search rules in
-    let fq : SFits w16 q = search rules in
-    let small = c.requires.by_index l.k (omega arith) in
-    let s = to_z w32 l.s-bits in
-    total_fits s p q fp fq (room s l.k p q fq small (omega arith) l.invariant.2)
+    let f = product s l.k p q fq small l.invariant.1 in
+    let g = total s l.k p q fq small l.invariant.1 (omega arith) in
+    grind (arith, to_z-of_z)
 
 pub loop-k-preserved : goal.loop-k-preserved
 loop-k-preserved c =
@@ -67,18 +51,15 @@ loop-k-preserved c =
     let o = c.args.o.now in
     let p = at t l.k in
     let q = at o l.k in
+    let s = to_z w32 l.sum-bits in
     let fp : SFits w16 p = search rules in
     let fq : SFits w16 q = search rules in
     let small = c.requires.by_index l.k (omega arith) in
-    let s = to_z w32 l.s-bits in
-    let is = total_is s p q fp fq (room s l.k p q fq small (omega arith) l.invariant.2) in (
-      omega arith,
-      is ∙ sum_more on_ℤ l.k (λ i. at t i *ℤ at o i) l.invariant.1,
-      omega (arith, ap nat_abs is, total_small s l.k p q fq small (omega arith) l.invariant.2),
+    let f = product s l.k p q fq small l.invariant.1 in
+    let g = total s l.k p q fq small l.invariant.1 (omega arith) in
+    let x = to_z w32 (of_z w32 c.from.result) in
+    let y = to_z w32 (of_z w32 c.from-in-loop-k.result) in
+    let is : to_z w32 (of_z w32 (s +ℤ to_z w32 (of_z w32 (x *ℤ y)))) ≡ s +ℤ p *ℤ q = grind (arith, to_z-of_z) in (
+      is ∙ sum_more on_ℤ l.k (λ i. at t i *ℤ at o i) l.invariant.0,
+      omega (arith, ap nat_abs is, total_small s l.k p q fq small l.invariant.1),
     )
-
-pub returns : goal.returns
-returns c =
-    let a = c.args in
-    let l = c.loop-k in
-    l.invariant.1 ∙ ap (first a.t.now a.o.now) (omega arith)

@@ -21,11 +21,6 @@ pub record Parted (x e o : List ℤ) : Type 0 where
   pub odds : (k : ℕ) → k < length e → at o k ≡ at x (2 * k + 1)
   pub small : (k : ℕ) → k < length e → (nat_abs (at e k) ≤ 32768) × (nat_abs (at o k) ≤ 32768)
 
--- the sums of e and b in front, their differences from the end
-pub record Spread (e b row : List ℤ) : Type 0 where
-  pub near : (n : ℕ) → n < length e → at row n ≡ at e n +ℤ at b n
-  pub far : (n : ℕ) → n < length e → at row (length e + length e - 1 - n) ≡ at e n -ℤ at b n
-
 -- no number of the list is above b
 abbrev pub Within : (b : ℕ) (l : List ℤ) → Type 0
 Within b l = (i : ℕ) → i < length l → nat_abs (at l i) ≤ b
@@ -36,6 +31,18 @@ most_value = 61079552
 
 abbrev pub most_odd : ℕ
 most_odd = 47185920
+
+-- a line x of 2^(l+1) coefficients of 16 bits in its halves: e has the even ones, and b what the odd ones give
+pub record Halves (l : ℕ) (x e b : List ℤ) : Type 0 where
+  pub evens : (k : ℕ) → k < 2 ^ l → at e k ≡ at x (2 * k)
+  pub odds : (n : ℕ) → n < 2 ^ l → at b n ≡ odd_at matrix (2 ^ l) (λ k. at x (2 * k + 1)) n
+  pub small : (k : ℕ) → k < 2 ^ l + 2 ^ l → nat_abs (at x k) ≤ 32768
+  pub within : (n : ℕ) → n < 2 ^ l → nat_abs (at b n) ≤ most_odd
+
+-- the sums of e and b in front, their differences from the end
+pub record Spread (e b row : List ℤ) : Type 0 where
+  pub near : (n : ℕ) → n < length e → at row n ≡ at e n +ℤ at b n
+  pub far : (n : ℕ) → n < length e → at row (length e + length e - 1 - n) ≡ at e n -ℤ at b n
 
 -- the row holds the values of the line x of 2^l coefficients
 pub record Back (l : ℕ) (x row : List ℤ) : Type 0 where

@@ -22,19 +22,15 @@ loop-j-preserved c =
     let a = c.args in
     let l = c.loop-j in
     let row = c.back8.new.row in
-    let lr : length row ≡ 8 = omega arith in (
-      omega arith,
-      omega arith,
-      lines_more (given a.src.now) most_value 8 a.lines l.dst c.store.new.dst (at row) l.j (omega arith)
-          (λ k hk.
-          c.back8.ensures.holds k hk
-          ∙ even_line 8 a.src.now l.j c.part.new.e c.part.new.o (omega arith) c.part.ensures k)
-          c.back8.ensures.within
-          (subst (λ (m : ℕ). Placed a.lines l.j m (at row) l.dst c.store.new.dst) lr (c.store.ensures (pos 0)))
-          l.invariant.2,
-    )
+    let lr : length row ≡ 8 = omega arith in
+    lines_more (given a.src.now) most_value 8 a.lines l.dst c.store.new.dst (at row) l.j (omega arith)
+    (λ k hk.
+    c.back8.ensures.holds k hk
+    ∙ even_line 8 a.src.now l.j c.part.new.e c.part.new.o (omega arith) c.part.ensures k)
+    c.back8.ensures.within
+    (subst (λ (m : ℕ). Placed a.lines l.j m (at row) l.dst c.store.new.dst) lr (c.store.ensures (pos 0))) l.invariant
 
 pub returns : goal.returns
 returns c =
     let l = c.loop-j in
-    lines_all (given c.args.src.now) most_value 8 c.args.lines l.dst l.j l.invariant.0 (omega arith) l.invariant.2
+    lines_all (given c.args.src.now) most_value 8 c.args.lines l.dst l.j (omega arith) (omega arith) l.invariant

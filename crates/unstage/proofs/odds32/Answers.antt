@@ -21,18 +21,15 @@ loop-j-preserved c =
     let a = c.args in
     let os = a.os.now in
     let l = c.loop-j in
-    let here = line 16 os l.j in (
-      omega arith,
-      omega arith,
-      lines_more (given os) most_odd 16 a.lines l.dst c.dots.new.dst
-          (λ k. odd_at matrix 16 (at here) (15 - k)) l.j (omega arith)
-          (λ k h. odd_same matrix 16 (at here) (λ k. at os (l.j * 16 + k)) (line_at_lem 16 os l.j) (15 - k))
-          (λ k h. odd_bound 4 (omega arith) (at here) (line_within 16 os l.j (omega arith) 32768 c.requires.3) (15 - k)
-          (omega arith))
-          c.dots.ensures l.invariant.2,
-    )
+    let here = line 16 os l.j in
+    lines_more (given os) most_odd 16 a.lines l.dst c.dots.new.dst
+    (λ k. odd_at matrix 16 (at here) (15 - k)) l.j (omega arith)
+    (λ k h. odd_same matrix 16 (at here) (λ k. at os (l.j * 16 + k)) (line_at_lem 16 os l.j) (15 - k))
+    (λ k h. odd_bound 4 (omega arith) (at here) (line_within 16 os l.j (omega arith) 32768 c.requires.3) (15 - k)
+    (omega arith))
+    c.dots.ensures l.invariant
 
 pub returns : goal.returns
 returns c =
     let l = c.loop-j in
-    lines_all (given c.args.os.now) most_odd 16 c.args.lines l.dst l.j l.invariant.0 (omega arith) l.invariant.2
+    lines_all (given c.args.os.now) most_odd 16 c.args.lines l.dst l.j (omega arith) (omega arith) l.invariant

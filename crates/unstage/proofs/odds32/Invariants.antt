@@ -1,7 +1,5 @@
 -- `unstage::odds32` meets its contract: before the turn j the first j lines stand in their columns.
-use mathlib.Core.Path.{◌≡◌}
-use Prim.Native.Nat.{◌+◌, ◌-◌, ◌*◌, ◌≤◌}
-use lib.ListN.{length}
+use Prim.Native.Nat.{◌+◌, ◌-◌, ◌*◌}
 use Rattle.integers.specs.Sum.{at}
 use Rattle.tables.specs.Matrix.{matrix}
 use Rattle.unfold.specs.Inner.Back.{odd_at, most_odd}
@@ -10,8 +8,4 @@ use Rattle.unstage.proofs.odds32.Given as goal
 
 abbrev pub invariant-loop-j : goal.invariant-loop-j
 invariant-loop-j l =
-    (l.j ≤ l.lines) × (length l.dst ≡ length l.initial.dst)
-    × Lines (λ j n. odd_at matrix 16 (λ k. at l.os (j * 16 + k)) (16 - 1 - n)) most_odd 16 l.lines l.dst l.j
-
-abbrev pub decreases-loop-j : goal.decreases-loop-j
-decreases-loop-j l = l.lines - l.j
+    Lines (λ j n. odd_at matrix 16 (λ k. at l.os (j * 16 + k)) (16 - 1 - n)) most_odd 16 l.lines l.dst l.j

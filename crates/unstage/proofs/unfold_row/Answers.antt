@@ -3,7 +3,6 @@ use mathlib.Core.Path.{◌≡◌, ◌∙◌, ap}
 use Prim.Native.Nat.{◌+◌, ◌^◌, ◌≤◌}
 use native.Mathlib.Omega.{arith}
 use lib.Dec.{lit<}
-use lib.ListN.{length-set}
 use lib.IntN.{ℤ, nat_abs, ◌+ℤ◌, ◌-ℤ◌}
 use mir.Syntax.{w32}
 use mir.Val.{SFits}
@@ -36,20 +35,17 @@ loop-i-preserved c =
     let there = a.c + l.i in
     let p = at l.dst here in
     let q = at l.dst there in
-    let near_is : p ≡ at a.dst.now here = l.invariant.2.between here (omega arith) (omega arith) in
-    let far_is : q ≡ at a.dst.now there = l.invariant.2.behind there (omega arith) in
+    let near_is : p ≡ at a.dst.now here = l.invariant.between here (omega arith) (omega arith) in
+    let far_is : q ≡ at a.dst.now there = l.invariant.behind there (omega arith) in
     let hp : nat_abs p ≤ 2 ^ 29 = omega (arith, ap nat_abs near_is, (c.requires.by_index l.i (omega arith)).0) in
     let hq : nat_abs q ≤ 2 ^ 29 = omega (arith, ap nat_abs far_is, (c.requires.by_index l.i (omega arith)).1) in
     let fp = one p q hp hq in
-    let fq = other p q hp hq in (
-      omega arith,
-      simp length-set l.invariant.1,
-      rows_more a.a a.c l.i a.dst.now l.dst _ _ (omega arith) (omega arith)
-          (operation_is w32 ◌+ℤ◌ p q fp fq (total p q hp hq)
-          ∙ ap (λ (z : ℤ). z +ℤ q) near_is
-          ∙ ap (λ (z : ℤ). at a.dst.now here +ℤ z) far_is)
-          (operation_is w32 ◌-ℤ◌ p q fp fq (gap p q hp hq)
-          ∙ ap (λ (z : ℤ). z -ℤ q) near_is
-          ∙ ap (λ (z : ℤ). at a.dst.now here -ℤ z) far_is)
-          l.invariant.2,
-    )
+    let fq = other p q hp hq in
+    rows_more a.a a.c l.i a.dst.now l.dst _ _ (omega arith) (omega arith)
+    (operation_is w32 ◌+ℤ◌ p q fp fq (total p q hp hq)
+    ∙ ap (λ (z : ℤ). z +ℤ q) near_is
+    ∙ ap (λ (z : ℤ). at a.dst.now here +ℤ z) far_is)
+    (operation_is w32 ◌-ℤ◌ p q fp fq (gap p q hp hq)
+    ∙ ap (λ (z : ℤ). z -ℤ q) near_is
+    ∙ ap (λ (z : ℤ). at a.dst.now here -ℤ z) far_is)
+    l.invariant

@@ -12,10 +12,7 @@ loop-n-preserved c =
     let l = c.loop-n in
     let new = c.unfold_row.new.dst in
     -- the row from the end as the code counts it
-    let mirrored : a.h + a.h - 1 - l.n ≡ 2 * a.h - 1 - l.n = omega arith in (
-      omega arith,
-      omega arith,
-      unfolded_more a.h a.lines l.n (omega arith) a.dst.now l.dst l.invariant.2 new
-          (subst (λ (m : ℕ). RowsUnfolded (l.n * a.lines) (m * a.lines) a.lines l.dst new) (sym mirrored)
-          c.unfold_row.ensures),
-    )
+    let mirrored : a.h + a.h - 1 - l.n ≡ 2 * a.h - 1 - l.n = omega arith in
+    unfolded_more a.h a.lines l.n (omega arith) a.dst.now l.dst l.invariant new
+    (subst (λ (m : ℕ). RowsUnfolded (l.n * a.lines) (m * a.lines) a.lines l.dst new) (sym mirrored)
+    c.unfold_row.ensures)
