@@ -1,7 +1,6 @@
 -- One level of a butterfly, as a law over the half side 2^l and over any family of matrices that is symmetric there:
 -- what the sums and the differences of a line of side 2^(l+1) give, and how a row of that side comes from a row of half
 -- the side and the odd half.
--- Assumes nothing.
 use mathlib.Core.Path.{◌≡◌, refl, sym, ◌∙◌, ap, subst}
 use mathlib.Core.Bool.{cond}
 use mathlib.Core.List.{List}

@@ -1,5 +1,4 @@
 pub mod Bounds
-pub mod OddHalf
 pub mod Gains
 pub mod Pair
 pub mod Room

@@ -1,5 +1,4 @@
 -- The two-point transform, 64·(p + q) and 64·(p - q): what fits, and that the two make a row.
--- Assumes nothing.
 use mathlib.Core.Path.{◌≡◌, sym, ◌∙◌, ap}
 use mathlib.Core.List.{List}
 use Prim.Native.Nat.{ℕ, zero, suc, ◌+◌, ◌<◌, ◌≤◌}

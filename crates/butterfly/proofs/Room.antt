@@ -1,6 +1,5 @@
 -- The room of a line of side 2^(l+1): its values are small enough to be added, and their sums have room in half the
 -- side.
--- Assumes nothing.
 use mathlib.Core.Path.{◌≡◌, sym, ◌∙◌, ap, subst}
 use mathlib.Core.List.{List}
 use Prim.Native.Nat.{ℕ, suc, ◌+◌, ◌-◌, ◌*◌, ◌^◌, ◌<◌, ◌≤◌}

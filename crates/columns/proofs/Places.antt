@@ -1,6 +1,5 @@
 -- The places of the coefficients in a row: those of side 32 serve every side, at a step of 32 over the side. One
 -- computed test.
--- Assumes nothing.
 use mathlib.Core.Path.{◌≡◌, sym, ◌∙◌, ap, subst}
 use mathlib.Core.Bool.{Bool, cond, ◌&&◌}
 use mathlib.Core.List.{List}

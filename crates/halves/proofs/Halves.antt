@@ -1,6 +1,5 @@
 -- Halves that floor: a number is twice its half and a rest of 0 or 1; a sum of lines by their halves and rests; and
 -- rounding the half of a number by 16 bits is rounding the number by 17.
--- Assumes nothing.
 use mathlib.Core.Path.{◌≡◌, sym, ◌∙◌, ap, subst}
 use mathlib.Core.List.{List}
 use lib.ListN.{length}

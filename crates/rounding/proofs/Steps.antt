@@ -1,6 +1,5 @@
 -- The rounding shift as the machine makes it, of a sum z and a shift s of at most 16: every step fits, and the result
 -- is the definition's.
--- Assumes nothing.
 use mathlib.Core.Path.{◌≡◌, sym, ◌∙◌, ap, subst}
 use Prim.Native.Nat.{ℕ, ◌*◌, ◌-◌, ◌%◌, ◌^◌, ◌<◌, ◌≤◌}
 use native.Mathlib.Nat.{mod-eq_of_lt, one-mul}

@@ -1,6 +1,5 @@
 -- Lines that go down their columns one by one. The part of a list of lines that is handed on is line j, and it has the
 -- room that the list has.
--- Assumes nothing.
 use mathlib.Core.Path.{◌≡◌, refl, sym, ◌∙◌, ap, subst}
 use mathlib.Core.Logic.{◌≢◌}
 use mathlib.Core.List.{List}

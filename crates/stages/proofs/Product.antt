@@ -1,6 +1,5 @@
 -- Two stages, one over the lines and one over the columns, are the double sum over the block. Of any family of matrices:
 -- the forward transform has T here, the inverse T with rows and columns exchanged.
--- Assumes nothing.
 use mathlib.Core.Path.{◌≡◌, sym, ◌∙◌, ap}
 use mathlib.Core.List.{List}
 use Prim.Native.Nat.{ℕ, ◌+◌, ◌*◌, ◌<◌}

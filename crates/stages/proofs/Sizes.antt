@@ -1,5 +1,4 @@
 -- How many numbers a block has, as its two stages count them, and that no block has more than 1,024.
--- Assumes nothing.
 use mathlib.Core.Path.{◌≡◌, sym, ◌∙◌, ap}
 use Prim.Native.Nat.{ℕ, ◌+◌, ◌*◌, ◌^◌, ◌≤◌}
 use native.Mathlib.Nat.{mul_comm}

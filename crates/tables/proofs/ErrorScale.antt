@@ -1,6 +1,5 @@
 -- The error scales by side and remainder, as a list of 30; and what an error scale is good for: q·E is at most
 -- 2^(28+l), so that a product with it stays within 64 bits.
--- Assumes nothing.
 use mathlib.Core.Path.{◌≡◌, ◌∙◌, ap}
 use mathlib.Core.List.{List}
 use Prim.Native.Nat.{ℕ, ◌+◌, ◌*◌, ◌-◌, ◌/◌, ◌%◌, ◌^◌, ◌<◌, ◌≤◌}

@@ -1,5 +1,4 @@
 -- An entry of the odd rows by columns, and how many there are.
--- Assumes nothing.
 use mathlib.Core.Path.{◌≡◌, refl, ◌∙◌, ap}
 use Prim.Native.Nat.{ℕ, ◌+◌, ◌*◌, ◌/◌, ◌%◌, ◌<◌}
 use lib.ListN.{length}

@@ -1,6 +1,5 @@
 -- How large a scale of either row can be, whatever the QP, by one computed test of a row. Code holds a forward scale in
 -- 16 bits, and the source's cap on L never acts by it; a level times a scale back stays within 32 bits.
--- Assumes nothing.
 use mathlib.Core.Bool.{Bool, ◌&&◌}
 use mathlib.Core.List.{List}
 use Prim.Native.Nat.{ℕ, ◌%◌, ◌≤◌}

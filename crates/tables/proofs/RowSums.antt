@@ -1,6 +1,5 @@
 -- The magnitudes of a row of the matrix of side N add up to at most 64·N: this bounds every coefficient; those of the
 -- first half of an odd row to at most 64·N/2. One computed test each over the sides; rows 0 and N/2 reach the first.
--- Assumes nothing.
 use Prim.Native.Nat.{ℕ, suc, ◌+◌, ◌*◌, ◌^◌, ◌<◌, ◌≤◌}
 use native.Mathlib.Omega.{arith}
 use lib.Dec.{T, leb, leb→le}

@@ -1,6 +1,5 @@
 -- The matrices have the symmetry that a butterfly needs, at every side. Each of its three facts by one computed test
 -- over the sides.
--- Assumes nothing.
 use mathlib.Core.Bool.{Bool}
 use Prim.Native.Nat.{ℕ, ◌+◌, ◌-◌, ◌*◌, ◌^◌, ◌<◌}
 use lib.Dec.{T}

@@ -1,7 +1,6 @@
 -- What the inverse needs of the matrices: the first halves of the odd rows read the same by rows and by columns, so that
 -- one table serves both directions; an entry is at most 90; and the magnitudes of a column add up to at most 1864,
 -- which bounds every sum of the inverse. One computed test each over the sides.
--- Assumes nothing.
 use mathlib.Core.Path.{◌≡◌}
 use mathlib.Core.Bool.{Bool}
 use Prim.Native.Nat.{ℕ, suc, ◌+◌, ◌*◌, ◌^◌, ◌<◌, ◌≤◌}

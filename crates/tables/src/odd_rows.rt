@@ -34,35 +34,13 @@ const NARROW: OddRows<i16> = OddRows {
 };
 
 // In 32 bits, for the transform.
+#[tactic(auto, unfolding(crate::specs::Inner::OddRows::odd_rows))]
 pub fn wide_rows() -> OddRows<i32> {
     WIDE
 }
 
 // In 16 bits, for its inverse.
+#[tactic(auto, unfolding(crate::specs::Inner::OddRows::odd_rows))]
 pub fn narrow_rows() -> OddRows<i16> {
     NARROW
-}
-
-pub fn narrow_2() -> [i16; 4]
-    ensures { result ≡ odd_rows 2 }
-{
-    NARROW_2
-}
-
-pub fn narrow_4() -> [i16; 16]
-    ensures { result ≡ odd_rows 4 }
-{
-    NARROW_4
-}
-
-pub fn narrow_8() -> [i16; 64]
-    ensures { result ≡ odd_rows 8 }
-{
-    NARROW_8
-}
-
-pub fn narrow_16() -> [i16; 256]
-    ensures { result ≡ odd_rows 16 }
-{
-    NARROW_16
 }

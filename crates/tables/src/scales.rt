@@ -16,6 +16,7 @@ const ERROR_SCALES: [u32; 30] = [
     368635, 417798, 466945, 524288, 589806,
 ];
 
+#[tactic(auto, unfolding(crate::specs::Scales::scale_of, crate::specs::Scales::forward))]
 pub fn scale(qp: u32) -> u32
     ensures { result ≡ scale_of forward qp }
 {
@@ -23,6 +24,7 @@ pub fn scale(qp: u32) -> u32
     table[(qp % 6) as usize]
 }
 
+#[tactic(auto, unfolding(crate::specs::Scales::scale_of, crate::specs::Scales::back))]
 pub fn back_scale(qp: u32) -> u32
     ensures { result ≡ scale_of back qp }
 {

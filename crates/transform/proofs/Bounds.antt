@@ -1,6 +1,5 @@
 -- How large a coefficient of accepted residuals can be, of the list that the call leaves: so none is -32768, and the
 -- quantiser's test for it cannot fail on what the transform made.
--- Assumes nothing.
 use mathlib.Core.Path.{◌≡◌, refl, sym, ap, subst, ◌∙◌}
 use mathlib.Core.Bool.{false}
 use mathlib.Core.List.{List}

@@ -1,6 +1,5 @@
 -- The paper's numbers for the transform, P1, P3 and P4, and the order of its faults, computed over the definitions of
 -- the call.
--- Assumes nothing.
 use mathlib.Core.Path.{◌≡◌, refl}
 use mathlib.Core.List.{List, [], ◌∷◌}
 use Prim.Native.Nat.{ℕ}

@@ -1,6 +1,5 @@
 -- The call's faults one after the other, as its code meets them: what the verdict and the buffer are where one holds,
 -- and where none does. The coefficients depend on nothing behind the block.
--- Assumes nothing.
 use mathlib.Core.Path.{◌≡◌, sym, ◌∙◌, ap}
 use mathlib.Core.Bool.{true, false}
 use mathlib.Core.List.{List, ◌++◌}

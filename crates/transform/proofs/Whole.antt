@@ -1,6 +1,5 @@
 -- The two stages together are the double sum; how large the sums of either stage and the coefficients can be; and when
 -- each place holds its coefficient, the block is the list that the definition says.
--- Assumes nothing.
 use mathlib.Core.Path.{◌≡◌, sym, ◌∙◌, ap, subst}
 use mathlib.Core.List.{List}
 use Prim.Native.Nat.{ℕ, ◌+◌, ◌*◌, ◌/◌, ◌%◌, ◌^◌, ◌<◌, ◌≤◌}
