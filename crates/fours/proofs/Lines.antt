@@ -1,6 +1,6 @@
--- The lines of four sums, one after the other: the residuals of the part that is handed on are those of line j, and
--- when they go down column j, one line more stands in its column.
-use mathlib.Core.Path.{◌≡◌, refl, sym, ◌∙◌, ap, subst}
+-- The lines of four, one after the other: the residuals of the part that is handed on are those of line j, and when a
+-- row goes down column j, one row more stands in its column.
+use mathlib.Core.Path.{◌≡◌, ap, subst}
 use mathlib.Core.List.{List}
 use Prim.Native.Nat.{ℕ, ◌+◌, ◌*◌, ◌<◌, ◌≤◌}
 use native.Mathlib.Omega.{arith}
@@ -32,25 +32,10 @@ module _ (x : List ℤ) (j : ℕ) where
   line_asks ends w =
       let l = line_length 4 x j ends in (l, λ i h. line_within 4 x j ends most_value w i (omega (arith, l)))
 
-module _ (n : ℕ) (x first : List ℤ) where
-  -- the first j lines stand in their columns
-  abbrev pub Passed : List ℤ → ℕ → Type 0
-  Passed block j = (j ≤ n) × (length block ≡ length first) × Columns (last_at x) 4 n (λ j. j) block j
-
-  pub none_passed : Passed first 0
-  none_passed = (omega arith, refl, λ j k h. absurd (let no : ⊥ = omega arith in no))
-
-  pub passed_more : (old new row : List ℤ) (j : ℕ) → j < n → length new ≡ length old → length row ≡ 4
-      → ((k : ℕ) → k < 4 → at row k ≡ last_of (at (line 4 x j)) k) → Placed n j (length row) (at row) old new
-      → Passed old j → Passed new (j + 1)
-  passed_more old new row j hj ln lr is placed was = (
-    omega arith,
-    ln ∙ was.1,
-    columns_more (last_at x) 4 n (λ j. j) old new j (at row) (own_column n j hj) (λ k hk. is k hk ∙ line_last x j k)
-        (subst (λ (m : ℕ). Placed n j m (at row) old new) lr placed) was.2,
-  )
-
--- what a store of a row of four asks
-pub store_asks : (n j : ℕ) (row block : List ℤ) → length row ≡ 4 → j < n → 4 * n ≤ length block
-    → (j < n) × (length row * n ≤ length block)
-store_asks n j row block l h b = (h, subst (λ (m : ℕ). m * n ≤ length block) (sym l) b)
+-- row j of four goes down column j
+pub columns_of_four_more : (g : ℕ → ℕ → ℤ) (n : ℕ) (old new row : List ℤ) (j : ℕ) → j < n → length row ≡ 4
+    → ((k : ℕ) → k < 4 → at row k ≡ g j k) → Placed n j (length row) (at row) old new
+    → Columns g 4 n (λ j. j) old j → Columns g 4 n (λ j. j) new (j + 1)
+columns_of_four_more g n old new row j hj lr is placed =
+    columns_more g 4 n (λ j. j) old new j (at row) (own_column n j hj) is
+    (subst (λ (m : ℕ). Placed n j m (at row) old new) lr placed)

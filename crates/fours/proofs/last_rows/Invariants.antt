@@ -1,10 +1,9 @@
 -- `fours::last_rows` meets its contract: before the turn j the first j rows hold their residuals.
-use Prim.Native.Nat.{◌-◌}
-use Rattle.fours.proofs.LastRows.{Rows}
+use mathlib.Core.Path.{◌≡◌}
+use Prim.Native.Nat.{ℕ, ◌+◌, ◌*◌, ◌<◌}
+use Rattle.integers.specs.Sum.{at}
+use Rattle.fours.specs.Inner.Last.{last_at}
 use Rattle.fours.proofs.last_rows.Given as goal
 
 abbrev pub invariant-loop-j : goal.invariant-loop-j
-invariant-loop-j l = Rows l.n l.x l.initial.block l.block l.j
-
-abbrev pub decreases-loop-j : goal.decreases-loop-j
-decreases-loop-j l = l.n - l.j
+invariant-loop-j l = (i k : ℕ) → i < l.j → k < 4 → at l.block (i * 4 + k) ≡ last_at l.x i k
