@@ -5,7 +5,7 @@
 // that no sample may be off by more than. What is wrong is said on standard error, and nothing further is shown then.
 #![tactic(auto)]
 
-ghost use Rattle.std.specs.Prelude.{◌<◌, IfOk};
+ghost use Rattle.std.specs.Prelude.{IfOk};
 ghost use Rattle.fates.specs.Fate.{Most};
 
 mod stopped;
@@ -19,7 +19,7 @@ use guarding::Guarded;
 use heights::Heights;
 use lines::{put_block, put_head, put_made, put_shown, put_sum};
 use page::{Levels, Pictures, Samples};
-use picture::{Size, by_rows, keep, take_block};
+use picture::{Block, Size, by_rows};
 use price::Settings;
 use refusals::{Refusal, Refused, Three};
 use residuals::{inverse, scale_back};
@@ -88,14 +88,12 @@ struct Made {
     residuals: [i16; 96],
 }
 
-fn make(residuals: [i16; 96], b: usize, asked: Asked) -> Result<Made, Unmade>
-    requires { b < 1024 }
-{
+fn make(residuals: [i16; 96], block: Block, asked: Asked) -> Result<Made, Unmade> {
     let mut coefficients = residuals;
     trans(&mut coefficients, 3, 3).map_err(|_| Unmade::Transform)?;
     let mut levels = residuals;
     let coded = code(&mut levels, asked).map_err(|refused| match refused.why {
-        Refusal::Height => Unmade::Height(b + 1),
+        Refusal::Height => Unmade::Height(block.number + 1),
         _ => Unmade::Quantiser,
     })?;
     let mut residuals = levels;
@@ -116,23 +114,21 @@ fn show_block<W: Print>(
     out: &W,
     camera: &[u16; 65536],
     kept: &mut [u16; 65536],
-    size: Size,
-    b: usize,
+    block: Block,
     asked: Asked,
 ) -> Result<Tally, Stopped>
-    requires { b < 1024 }
     ensures { IfOk result (λ tally. Most 64 tally) }
 {
-    let seen = take_block(camera, size, b);
-    let made = make(shown::residuals(&seen), b, asked)?;
+    let seen = block.take(camera);
+    let made = make(shown::residuals(&seen), block, asked)?;
     let view = views(&made.residuals);
-    keep(kept, b, &view);
-    let apart = block_apart(size, b, &seen, &view);
+    block.keep(kept, &view);
+    let apart = block_apart(block, &seen, &view);
     let samples = Samples {
         seen: &seen,
         view: &view,
     };
-    put_block(out, b, samples, apart)?;
+    put_block(out, block, samples, apart)?;
     put_made(out, &made.levels, made.coded)?;
     Ok(made.levels.tally())
 }
@@ -146,8 +142,9 @@ fn show_blocks<W: Print>(
     asked: Asked,
 ) -> Result<(), Stopped> {
     let mut tally = Tally::default();
-    for b in 0..size.across() * size.down() {
-        tally = tally + show_block(out, camera, kept, size, b, asked)?;
+    for number in 0..size.across() * size.down() {
+        let block = Block { size, number };
+        tally = tally + show_block(out, camera, kept, block, asked)?;
     }
     put_sum(out, tally)?;
     Ok(())

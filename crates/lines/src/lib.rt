@@ -12,7 +12,7 @@ use asked::{Asked, Picture};
 use fates::Tally;
 use guarding::Guarded;
 use page::{Greys, Levels, Pictures, Samples};
-use picture::Size;
+use picture::{Block, Size};
 use shown::{Worst, darkest, farthest};
 use std::io;
 use std::io::Print;
@@ -56,11 +56,14 @@ A price is squared error plus lambda times bits; in brackets as the call reports
 }
 
 // ---- a block
-// Block b, counted from 0, as the camera saw it and as it is shown, and their largest difference.
-pub fn put_block<W: Print>(out: &W, b: usize, samples: Samples<'_>, apart: u16) -> io::Result<()>
-    requires { b < 1024 }
-{
-    let number = b + 1;
+// A block as the camera saw it and as it is shown, and their largest difference.
+pub fn put_block<W: Print>(
+    out: &W,
+    block: Block,
+    samples: Samples<'_>,
+    apart: u16,
+) -> io::Result<()> {
+    let number = block.number + 1;
     print!(out;
         "
 block {number}: camera                               shown

@@ -1,4 +1,4 @@
-// The sides of a picture, and where the samples of its blocks of 8 by 8 stand.
+// The sides of a picture.
 ghost use Rattle.std.specs.Prelude.{◌≡◌, ◌*◌, ◌≤◌, ◌<◌};
 
 // From 1 to 256 each.
@@ -11,7 +11,7 @@ pub struct Size {
 }
 
 impl Size {
-    ghost use Rattle.picture.specs.Picture.{across_of, down_of, row_of, column_of, inside_of, place_of, kept_of};
+    ghost use Rattle.picture.specs.Picture.{across_of, down_of, kept_of};
 
     // How many blocks stand beside each other.
     pub fn across(self) -> usize
@@ -32,41 +32,6 @@ impl Size {
         ensures { (result ≡ self.height * self.width) × (1 ≤ result) × (result ≤ 65536) }
     {
         self.height * self.width
-    }
-
-    // The row of the picture, or behind its last, at place i of block b.
-    pub fn row(self, b: usize, i: usize) -> usize
-        requires { (b < 1024) × (i < 64) }
-        ensures { result ≡ row_of self b i }
-    {
-        b / self.across() * 8 + i / 8
-    }
-
-    pub fn column(self, b: usize, i: usize) -> usize
-        requires { (b < 1024) × (i < 64) }
-        ensures { result ≡ column_of self b i }
-    {
-        b % self.across() * 8 + i % 8
-    }
-
-    // Whether place i of block b is in the picture.
-    #[tactic(auto, unfolding(crate::specs::Picture::inside_of))]
-    pub fn inside(self, b: usize, i: usize) -> bool
-        requires { (b < 1024) × (i < 64) }
-        ensures { result ≡ inside_of self b i }
-    {
-        self.row(b, i) < self.height && self.column(b, i) < self.width
-    }
-
-    // Where the sample at place i of block b stands, or the nearest one that the picture has.
-    #[tactic(auto, using(crate::proofs::Bounds::by_rows_lem), unfolding(crate::specs::Picture::place_of))]
-    pub fn place(self, b: usize, i: usize) -> usize
-        requires { (b < 1024) × (i < 64) }
-        ensures { (result ≡ place_of self b i) × (result < 65536) }
-    {
-        let y = self.row(b, i).min(self.height - 1);
-        let x = self.column(b, i).min(self.width - 1);
-        y * self.width + x
     }
 
     // Where the sample at place p of the picture is kept.

@@ -7,7 +7,7 @@ ghost use Rattle.std.specs.Prelude.{◌≡◌, ℕ, ◌≤◌, ◌<◌, length, 
 ghost use Rattle.shown.specs.Shown.{residual_of, viewed_of, apart_of, apart_at, Residuals, Views, block_apart};
 ghost use Rattle.shown.specs.Shown.{apart_in, darker_in, distance_in, Farthest, farther_of};
 
-use picture::Size;
+use picture::Block;
 
 // A sample of 10 bits less the guess.
 #[tactic(auto, unfolding(crate::specs::Shown::residual_of))]
@@ -47,11 +47,11 @@ pub fn views(block: &[i16; 96]) -> [u16; 64]
 
 // The difference at place i of a block, 0 outside the picture.
 #[tactic(auto, unfolding(crate::specs::Shown::apart_at, crate::specs::Shown::apart_of))]
-fn apart_at(size: Size, b: usize, seen: &[u16; 64], view: &[u16; 64], i: usize) -> u16
-    requires { (b < 1024) × (i < 64) }
-    ensures { result ≡ apart_at size b seen.now view.now i }
+fn apart_at(block: Block, seen: &[u16; 64], view: &[u16; 64], i: usize) -> u16
+    requires { i < 64 }
+    ensures { result ≡ apart_at block.size block.number seen.now view.now i }
 {
-    if size.inside(b, i) {
+    if block.inside(i) {
         seen[i].abs_diff(view[i])
     } else {
         0
@@ -59,13 +59,12 @@ fn apart_at(size: Size, b: usize, seen: &[u16; 64], view: &[u16; 64], i: usize) 
 }
 
 // The largest difference of a sample of a block.
-pub fn block_apart(size: Size, b: usize, seen: &[u16; 64], view: &[u16; 64]) -> u16
-    requires { b < 1024 }
-    ensures { result ≡ block_apart size b seen.now view.now }
+pub fn block_apart(block: Block, seen: &[u16; 64], view: &[u16; 64]) -> u16
+    ensures { result ≡ block_apart block.size block.number seen.now view.now }
 {
     let mut top: u16 = 0;
     for i in 0..64 {
-        top = top.max(apart_at(size, b, seen, view, i));
+        top = top.max(apart_at(block, seen, view, i));
     }
     top
 }

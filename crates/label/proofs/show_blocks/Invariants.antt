@@ -3,5 +3,5 @@ use Rattle.std.proofs.Common.{◌*◌}
 use Rattle.fates.specs.Fate.{Most}
 use Rattle.label.proofs.show_blocks.Given as goal
 
-abbrev pub invariant-loop-b : goal.invariant-loop-b
-invariant-loop-b g l = Most (64 * l.b) l.tally
+abbrev pub invariant-loop-number : goal.invariant-loop-number
+invariant-loop-number g l = Most (64 * l.number) l.tally

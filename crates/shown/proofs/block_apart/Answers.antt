@@ -18,4 +18,4 @@ returns c =
     let l = c.loop-i in
     let a = c.args in
     let e : l.i ≡ 64 = omega arith in
-    l.invariant ∙ ap (λ (n : ℕ). sum on_max n (apart_at a.size a.b a.seen.now a.view.now)) e
+    l.invariant ∙ ap (λ (n : ℕ). sum on_max n (apart_at a.block.size a.block.number a.seen.now a.view.now)) e

@@ -5,4 +5,4 @@ use Rattle.shown.specs.Shown.{apart_at}
 use Rattle.shown.proofs.block_apart.Given as goal
 
 abbrev pub invariant-loop-i : goal.invariant-loop-i
-invariant-loop-i l = l.top ≡ sum on_max l.i (apart_at l.size l.b l.seen l.view)
+invariant-loop-i l = l.top ≡ sum on_max l.i (apart_at l.block.size l.block.number l.seen l.view)

@@ -1,8 +1,0 @@
--- `picture::take_block` meets its contract: the first i samples are taken.
-use Rattle.std.proofs.Common.{◌≡◌, length, get_or}
-use Rattle.integers.proofs.Fill.{Filled}
-use Rattle.picture.specs.Picture.{place_of}
-use Rattle.picture.proofs.take_block.Given as goal
-
-abbrev pub invariant-loop-i : goal.invariant-loop-i
-invariant-loop-i l = (64 ≡ length l.block) × Filled 0 l.block (λ j. get_or l.camera (place_of l.size l.b j) 0) l.i
