@@ -1,5 +1,4 @@
 -- What an accepted call says of its inputs: none of its faults holds.
--- Assumes nothing.
 use mathlib.Core.Path.{◌≡◌}
 use mathlib.Core.Bool.{true, false, not}
 use Prim.Native.Nat.{suc, ◌*◌, ◌^◌, ◌≤◌}

@@ -1,6 +1,5 @@
 -- How large the numbers of an accepted call become: the running totals of its walk and its price stay below 2^62, with
 -- room for a block of side 64, and its count is at most the block's places. Code holds them in 64 bits.
--- Assumes nothing.
 use mathlib.Core.Path.{◌≡◌, refl}
 use mathlib.Core.Bool.{Bool, true, false}
 use Prim.Native.Nat.{ℕ, ◌+◌, ◌*◌, ◌^◌, ◌≤◌, ◌<◌}

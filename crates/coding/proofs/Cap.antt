@@ -1,7 +1,6 @@
 -- The source's cap on L never acts here, so that the definitions leave it out. The source goes on with L or with the
 -- largest i32 less 2^(b-1), whichever is smaller; where a coefficient has 16 bits and QP is at most 63 that is L, at
 -- every place and whatever the sides.
--- Assumes nothing.
 use mathlib.Core.Path.{◌≡◌, ap, ◌∙◌}
 use mathlib.Core.Bool.{false}
 use mathlib.Core.List.{List}

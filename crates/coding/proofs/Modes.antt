@@ -1,5 +1,5 @@
 -- What both modes promise of the block that they write: a magnitude for each place, each 0, m or m - 1, and a price no
--- higher than the empty block's. Assumes nothing.
+-- higher than the empty block's.
 use mathlib.Core.Path.{◌≡◌}
 use mathlib.Core.List.{List}
 use Prim.Native.Nat.{ℕ, ◌+◌, ◌≤◌, ◌<◌}

@@ -1,7 +1,6 @@
 -- The paper's numbers for the quantiser, P5 to P9, and numbers of the project's own that tell apart what those let
 -- through, computed over the definitions of the call: refusal, count, price and levels, and the m that P6 names. The
 -- project's own were worked out by a program that shares nothing with these definitions.
--- Assumes nothing.
 use mathlib.Core.Path.{◌≡◌, refl}
 use mathlib.Core.Bool.{Bool, true, false}
 use mathlib.Core.List.{List, [], ◌∷◌}

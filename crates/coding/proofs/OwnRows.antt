@@ -1,7 +1,6 @@
 -- What a block is coded to depends on the cost tables only through the rows of its component: calls that differ in
 -- nothing but the other rows have the same count, price and levels. The three-component call needs it to show that luma
 -- depends on no chroma cost.
--- Assumes nothing.
 use mathlib.Core.Path.{◌≡◌, refl}
 use mathlib.Core.Bool.{Bool}
 use mathlib.Core.List.{List}
@@ -31,19 +30,7 @@ rate_same sign rows a b same z (suc (suc n)) = rw ((same.run z).0, same.level.1,
 
 -- the call with other cost tables
 abbrev pub with_costs : Quant → Costs → Quant
-with_costs c t =
-    record {
-      buffer = c.buffer;
-      lw = c.lw;
-      lh = c.lh;
-      component = c.component;
-      settings = c.settings;
-      intra_slice = c.intra_slice;
-      intra_coded = c.intra_coded;
-      costs = t;
-      mode = c.mode;
-      fixed = c.fixed;
-    }
+with_costs c t = record c { costs = t }
 
 module _ (c : Quant) (a b : Costs) (same : SameRows (rows_here c) a b) where
   abbrev by : Costs → Quant

@@ -2,7 +2,6 @@
 -- count and the price of the levels left in the buffer, and bounds their squared error. Of a walked one: what a level
 -- is, and, by the mode, that no cut of the walk is cheaper, or no block at all. Then which blocks are skipped, and what
 -- these report.
--- Assumes nothing.
 use mathlib.Core.Path.{◌≡◌, refl, sym, ◌∙◌, ap, subst}
 use mathlib.Core.Logic.{◌⊎◌, inl, inr, ⊎_elim}
 use mathlib.Core.Bool.{Bool, true, false, not, cond}

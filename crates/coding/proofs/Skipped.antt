@@ -1,6 +1,5 @@
 -- D of a block that the skip clears is below 2^57, whatever its side and QP: each L is below 2^b, so that 14564 errors
 -- of it come to at most 2^37. So the price that such a block reports fits, and no refusal has to be asked of it.
--- Assumes nothing.
 use mathlib.Core.Path.{◌≡◌}
 use mathlib.Core.Bool.{true}
 use Prim.Native.Nat.{ℕ, ◌+◌, ◌-◌, ◌*◌, ◌/◌, ◌^◌, ◌≤◌, ◌<◌}

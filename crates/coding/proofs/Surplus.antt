@@ -1,5 +1,5 @@
 -- A buffer's surplus is neither tested nor changed: the call over the block alone has the same answer, and leaves the
--- block's part of the buffer that the call over the whole leaves. Assumes nothing.
+-- block's part of the buffer that the call over the whole leaves.
 use mathlib.Core.Path.{◌≡◌, refl, sym, ap, ◌∙◌}
 use mathlib.Core.Bool.{not}
 use mathlib.Core.List.{List, [], ◌∷◌, ◌++◌, map}

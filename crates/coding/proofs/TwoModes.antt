@@ -2,7 +2,6 @@
 -- is refused in one is refused in the other with the same number and component, and leaves the same buffer. The price
 -- that the second mode reports is never above the walk's, a skipped block's included. So who changes the mode meets
 -- no other refusal, and pays no more.
--- Assumes nothing.
 use mathlib.Core.Path.{◌≡◌, refl, sym, ◌∙◌}
 use mathlib.Core.Bool.{Bool, true, false, cond}
 use mathlib.Core.List.{map}
@@ -20,19 +19,7 @@ use Rattle.coding.proofs.Promises.{reported}
 
 -- the same call in another mode
 abbrev pub in_mode : Mode → Quant → Quant
-in_mode mode c =
-    record {
-      buffer = c.buffer;
-      lw = c.lw;
-      lh = c.lh;
-      component = c.component;
-      settings = c.settings;
-      intra_slice = c.intra_slice;
-      intra_coded = c.intra_coded;
-      costs = c.costs;
-      mode = mode;
-      fixed = c.fixed;
-    }
+in_mode mode c = record c { mode = mode }
 
 -- ---- refusals: no fault asks for the mode
 pub refusals_unchanged : (m n : Mode) (c : Quant) → quant_verdict (in_mode m c) ≡ quant_verdict (in_mode n c)

@@ -3,7 +3,6 @@
 -- answers the count and the price that the call answers, and what the quantiser leaves is what then stands in the
 -- stretch. Of every call: a component not run answers 0 and 0 and keeps its residuals, and the surplus stays. So no
 -- component is merely cleared, kept or made up.
--- Assumes nothing.
 use mathlib.Core.Path.{◌≡◌, refl, sym, ap, ◌∙◌}
 use mathlib.Core.Bool.{Bool, true, false, cond}
 use mathlib.Core.List.{List, ◌++◌}

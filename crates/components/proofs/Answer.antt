@@ -1,12 +1,10 @@
 -- Answer and buffer by the verdict, of the quantiser alone and of the three-component call: accepted, the counts and
 -- prices and what was coded, or is kept; refused, the verdict's numbers and what the buffer held. And back: which
 -- verdict an answer comes from.
--- Assumes nothing.
 use mathlib.Core.Path.{◌≡◌, refl, sym, ap, ◌∙◌}
 use mathlib.Core.Bool.{true, false}
 use mathlib.Core.List.{◌++◌}
 use Prim.Native.Nat.{ℕ, ◌+◌}
-use native.Mathlib.Omega.{arith}
 use lib.ListN.{drop}
 use Rattle.refusals.specs.declared.Component.{Component}
 use Rattle.refusals.specs.declared.Component.TheVariants.{Y, U, «V»}
@@ -75,7 +73,7 @@ module _ (s : SubBlock) (number component : ℕ) where
     where
       by : (v : Outcome Unit) (a b c : Coded) → outcome v a b c ≡ refused number component
           → v ≡ refused number component
-      by (accepted t) a b c e = absurd (let z : ◌≡◌ {A = ℕ} 0 1 = cc in let no : ⊥ = omega arith in no)
+      by (accepted t) a b c e = cc
       by (refused i j) a b c e = cc
 
 -- a call that answers what was coded is accepted
@@ -84,4 +82,4 @@ coded_accepted s x y z e = by (sub_block_verdict s) (share Y s) (share U s) (sha
   where
     by : (v : Outcome Unit) (a b c : Coded) → outcome v a b c ≡ coded x y z → v ≡ passed
     by (accepted t) a b c f = refl
-    by (refused m k) a b c f = absurd (let w : ◌≡◌ {A = ℕ} 0 1 = cc in let no : ⊥ = omega arith in no)
+    by (refused m k) a b c f = cc

@@ -1,6 +1,5 @@
 -- One block by itself: what the transform makes of residuals that fill it and are all tame, how long what the quantiser
 -- leaves is, and what the residuals' fault of a component says of its stretch.
--- Assumes nothing.
 use mathlib.Core.Path.{◌≡◌, sym, ap, ◌∙◌}
 use mathlib.Core.Bool.{false, ◌&&◌}
 use mathlib.Core.List.{List, ◌++◌, append-nil}

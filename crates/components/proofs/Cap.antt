@@ -1,5 +1,4 @@
 -- The source's cap on L never acts in the three-component call either: the transform's coefficients are at most 32736.
--- Assumes nothing.
 use mathlib.Core.Path.{◌≡◌}
 use mathlib.Core.Logic.{⊎_elim}
 use mathlib.Core.Bool.{true}

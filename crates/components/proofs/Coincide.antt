@@ -1,5 +1,4 @@
 -- Any two outcomes that the contract of `sub_block_tq` allows coincide.
--- Assumes nothing.
 use mathlib.Core.Path.{◌≡◌}
 use mathlib.Core.List.{List}
 use lib.IntN.{ℤ}

@@ -1,6 +1,5 @@
 -- The verdict of the three-component call once its early tests have passed: the first of the verdicts that the
 -- quantiser alone gives of Y, then U, then V, of those that are run.
--- Assumes nothing.
 use mathlib.Core.Path.{◌≡◌, refl, sym, ap, ◌∙◌}
 use mathlib.Core.Bool.{Bool, true, false, cond, ◌&&◌}
 use mathlib.Core.List.{List, [], ◌∷◌, ◌++◌, map}

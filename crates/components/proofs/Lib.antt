@@ -3,6 +3,7 @@ pub mod Log2
 pub mod Blocks
 pub mod Answer
 pub mod Late
+pub mod Turns
 pub mod Accepted
 pub mod Alone
 pub mod NotRun

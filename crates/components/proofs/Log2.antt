@@ -1,5 +1,4 @@
 -- The log2 side of each component, from luma's: inside what the transform and the quantiser alone take.
--- Assumes nothing.
 use mathlib.Core.Path.{◌≡◌}
 use mathlib.Core.Bool.{false}
 use Prim.Native.Nat.{ℕ, ◌≤◌}

@@ -1,7 +1,6 @@
 -- Luma's count, price and levels in an accepted call depend on no chroma setting, cost or sample: two accepted calls
 -- that agree on luma's sides, settings and residuals, on whether luma is run, on the two flags and on the rows of the
 -- cost tables that luma reads, agree on what is answered of luma and on what is left in its stretch.
--- Assumes nothing.
 use mathlib.Core.Path.{◌≡◌, refl, sym, ap, subst, ◌∙◌}
 use mathlib.Core.Bool.{Bool, true, false, cond}
 use Prim.Native.Nat.{ℕ, ◌+◌, ◌<◌}
@@ -36,7 +35,7 @@ pub record SameLuma (s t : SubBlock) : Type 0 where
   pub rows : t.fixed.rows ≡ rows_of
   pub lw : s.lw ≡ t.lw
   pub lh : s.lh ≡ t.lh
-  pub settings : s.y ≡ t.y
+  pub settings : s.settings.y ≡ t.settings.y
   pub run : runs Y s ≡ runs Y t
   pub slice : s.intra_slice ≡ t.intra_slice
   pub coded : s.intra_coded ≡ t.intra_coded

@@ -2,7 +2,6 @@
 -- the buffer's length, and on settings and residuals of what is run, have the same answer, accepted or refused, and
 -- leave the same in the stretch of each component that is run. Other bits of the run mask, settings and residuals of
 -- what is not run, and the surplus are not spoken of.
--- Assumes nothing.
 use mathlib.Core.Path.{◌≡◌, refl, sym, ap, ◌∙◌}
 use mathlib.Core.Bool.{Bool, true, false, cond, ◌&&◌, ◌||◌}
 use mathlib.Core.List.{List, ◌∷◌}

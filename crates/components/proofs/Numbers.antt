@@ -1,7 +1,6 @@
 -- The three-component call with some and with all components run, and the order of its faults, computed over the
 -- definitions of the call. The accepted answers were worked out by a program that shares nothing with these
 -- definitions.
--- Assumes nothing.
 use mathlib.Core.Path.{◌≡◌, refl}
 use mathlib.Core.Bool.{Bool, true}
 use mathlib.Core.List.{List, [], ◌∷◌, ◌++◌}

@@ -2,7 +2,6 @@
 -- that a call that is refused in one is refused in the other with the same number and component, and leaves the same
 -- buffer. The price that the second mode reports of a component is never above the walk's, the 0 of a component not run
 -- included.
--- Assumes nothing.
 use mathlib.Core.Path.{◌≡◌, refl, sym, ap, ◌∙◌}
 use mathlib.Core.Bool.{Bool, true, false, cond}
 use Prim.Native.Nat.{ℕ, ◌≤◌}
@@ -23,21 +22,7 @@ use Rattle.components.proofs.Alone.{answer_of_three}
 
 -- the same call in another mode
 abbrev pub in_mode : Mode → SubBlock → SubBlock
-in_mode mode s =
-    record {
-      buffer = s.buffer;
-      lw = s.lw;
-      lh = s.lh;
-      y = s.y;
-      u = s.u;
-      v = s.v;
-      run = s.run;
-      intra_slice = s.intra_slice;
-      intra_coded = s.intra_coded;
-      costs = s.costs;
-      mode = mode;
-      fixed = s.fixed;
-    }
+in_mode mode s = record s { mode = mode }
 
 -- ---- refusals: no fault asks for the mode
 pub refusals_unchanged : (m n : Mode) (s : SubBlock) → sub_block_verdict (in_mode m s) ≡ sub_block_verdict (in_mode n s)

@@ -3,6 +3,7 @@
 use Rattle.std.specs.Prelude.{Bool, ◌&&◌, ◌||◌, cond, List, [], ◌∷◌, ◌++◌, ℕ, ◌+◌, ◌-◌, ◌*◌, ◌/◌, ◌%◌, ◌^◌, ltb, eqb, length, take, drop, ℤ, Result}
 use Rattle.refusals.specs.declared.Refused.{Refused}
 use Rattle.refusals.specs.declared.Three.{Three}
+use Rattle.refusals.specs.Three.{part_of}
 use Rattle.refusals.specs.declared.Component.{Component}
 use Rattle.refusals.specs.declared.Component.TheVariants.{Y, U, «V»}
 use Rattle.refusals.specs.declared.Refusal.TheVariants.{Side, Cost, Length}
@@ -27,9 +28,7 @@ pub record SubBlock : Type 0 where
   pub buffer : List ℤ
   pub lw : ℕ
   pub lh : ℕ
-  pub y : Settings
-  pub u : Settings
-  pub v : Settings
+  pub settings : Three Settings
   pub run : ℕ
   pub intra_slice : Bool
   pub intra_coded : Bool
@@ -45,9 +44,7 @@ requested buffer t q =
       buffer = buffer;
       lw = q.log2_luma;
       lh = q.log2_luma;
-      y = q.settings.y;
-      u = q.settings.u;
-      v = q.settings.v;
+      settings = q.settings;
       run = q.run;
       intra_slice = q.intra_slice;
       intra_coded = q.intra_coded;
@@ -66,9 +63,7 @@ unfolding bit
 runs k s = bit k s.run
 
 abbrev pub settings_of : Component → SubBlock → Settings
-settings_of Y s = s.y
-settings_of U s = s.u
-settings_of «V» s = s.v
+settings_of k s = part_of k s.settings
 
 -- a component's log2 side, by luma's: chroma's is one less
 abbrev pub log2_of : Component → ℕ → ℕ

@@ -24,10 +24,11 @@ use Rattle.coding.specs.Block.{count_of, price_of}
 use Rattle.coding.specs.Call.{quant_verdict, quant_answer}
 use Rattle.components.specs.declared.Request.{Request}
 use Rattle.components.specs.Call.{bit}
+use Rattle.components.specs.Inner.Turns.{past}
 use Rattle.components.proofs.Log2.{log2_high, log2_inside}
 use Rattle.components.proofs.Answer.{answer_alone, buffer_alone}
 use Rattle.rooms.proofs.Fitting.{fits}
-use Rattle.stretch.specs.Inner.Part.{log2_in, coding_of, quant_in, Ready, part_answer, part_left, past}
+use Rattle.stretch.specs.Inner.Part.{log2_in, coding_of, quant_in, Ready, part_answer, part_left}
 use Rattle.heights.specs.declared.Heights.{Heights}
 use Rattle.refusals.specs.declared.Three.{Three}
 use Rattle.guarding.specs.Call.{nothing}
@@ -88,7 +89,7 @@ module _ (k : Component) (t : Costs) (q : Request) (h : Three Heights) (r : List
         record {
           answer = ap guard_outcome is
               ∙ sym (answer_past _ (refusing_verdict _ (quant_verdict (quant_in k t q r)) _ _ (sym (verdict_of_lem says))));
-          left = λ a f. absurd (let z : ◌≡◌ {A = ℕ} 0 1 = cc in let no : ⊥ = omega arith in no);
+          left = λ a f. cc;
         }
 
     -- ---- coded

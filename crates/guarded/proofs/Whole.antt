@@ -25,24 +25,12 @@ use Rattle.guarding.specs.Call.{GuardedBlock, guarded_request, guard_of, guarded
 use Rattle.guarding.specs.Call.{levels, guarded_buffer, coded_buffer, guarded_outcome, Shares}
 use Rattle.guarding.specs.Inner.Held.{guard_by, held_answer}
 use Rattle.guarding.proofs.Late.{guarded_late, guarded_verdict_in_groups}
-use Rattle.stretch.specs.Inner.Part.{past}
+use Rattle.components.specs.Inner.Turns.{past}
+use Rattle.guarding.proofs.Accepted.{guard_call}
+use Rattle.guarding.proofs.Turns.{component_answer_lem}
 use Rattle.guard.specs.Inner.Part.{guard_in, guard_part_answer, guard_part_left}
 use Rattle.turns.specs.Inner.Parts.{Called}
 use Rattle.turns.proofs.Finished.{Known, ends}
-
--- past a verdict: the first candidate that fits, or 15
-held_past : (v : Outcome Unit) (g : Guard)
-    → past v (held_answer g)
-    ≡ answering (or_else v (cond (none_fits g) (refused 15 (component_of g.call.component)) passed)) (reported g)
-unfolding held_answer
-held_past (refused n c) g = refl
-held_past (accepted u) g = by (none_fits g)
-  where
-    by : (b : Bool)
-        → cond b (refused 15 (component_of g.call.component)) (accepted (reported g))
-        ≡ answering (cond b (refused 15 (component_of g.call.component)) passed) (reported g)
-    by true = refl
-    by false = refl
 
 module _ (b : List ℤ) (t : Costs) (q : Request) (h : Three Heights) where
   abbrev s : SubBlock
@@ -60,27 +48,14 @@ module _ (b : List ℤ) (t : Costs) (q : Request) (h : Three Heights) where
   guard_is U = refl
   guard_is «V» = refl
 
-  call_is : (k : Component) → (guard_of k g).call ≡ quant_of k s
-  unfolding guard_of guarded_request
-  call_is k = refl
-
   answered : EarlyPassed s → (k : Component)
       → guard_part_answer k t q h (stretch k s) ≡ answering (guarded_late k g) (share k g)
-  unfolding guard_part_answer share runs requested guarded_request guard_of quant_of quant_on
-  answered early k = by (bit k q.run) refl
-    where
-      by : (o : Bool) → bit k q.run ≡ o
-          → cond o (past (quant_verdict (here k).call) (held_answer (here k))) (accepted nothing)
-          ≡ answering
-          (or_else (cond o (verdict late_faults (quant_of k s)) passed)
-          (cond (o && none_fits (guard_of k g)) (refused 15 (component_of k)) passed))
-          (cond o (reported (guard_of k g)) nothing)
-      by true run =
-          ap (λ (x : Guard). past (quant_verdict x.call) (held_answer x)) (guard_is k)
-          ∙ ap (λ (v : Outcome Unit). past v (held_answer (guard_of k g)))
-          (quantiser_alone_is_late s early k run ∙ rw run)
-          ∙ held_past (verdict late_faults (quant_of k s)) (guard_of k g)
-      by false run = refl
+  unfolding guard_part_answer runs requested guarded_request
+  answered early k =
+      ap (λ (x : Guard). cond (bit k q.run) (past (quant_verdict x.call) (held_answer x)) (accepted nothing)) (guard_is k)
+      ∙ ap (λ (c : Quant). cond (bit k q.run) (past (quant_verdict c) (held_answer (guard_of k g))) (accepted nothing))
+      (guard_call k g)
+      ∙ component_answer_lem g early k
 
   left : EarlyPassed s → (k : Component) → guarded_late k g ≡ passed
       → guard_part_left k t q h (stretch k s) ≡ levels k g

@@ -1,10 +1,8 @@
 -- An accepted guarded call: it passes the early tests, and of each component that is run the quantiser alone accepts
 -- its block, and one of its candidates fits. So the call without heights is accepted too.
--- Assumes nothing.
 use mathlib.Core.Path.{◌≡◌, refl, sym, ap, ◌∙◌}
 use mathlib.Core.Bool.{Bool, true, false, cond, ◌&&◌}
 use Prim.Native.Nat.{ℕ}
-use native.Mathlib.Omega.{arith}
 use Rattle.integers.proofs.Tests.{not_both}
 use Rattle.refusals.specs.declared.Component.{Component}
 use Rattle.refusals.specs.declared.Component.TheVariants.{Y, U, «V»}
@@ -15,6 +13,7 @@ use Rattle.coding.specs.Call.{quant_verdict}
 use Rattle.components.specs.Call.{runs, quant_of, sub_block_verdict}
 use Rattle.components.specs.Inner.Groups.{settings_faults, buffer_faults, EarlyPassed}
 use Rattle.components.proofs.Late.{late_of, verdict_in_groups}
+use Rattle.components.proofs.Turns.{first_refusal, each_passed}
 use Rattle.components.proofs.Alone.{quantiser_alone_is_late}
 use Rattle.guarding.specs.Block.{none_fits, fits, guarded}
 use Rattle.guarding.specs.Call.{GuardedBlock, guard_of, guarded_verdict}
@@ -23,7 +22,7 @@ use Rattle.guarding.proofs.Fits as block
 
 -- a test that refuses with 15 did not hold
 not_refused : (t : Bool) (n : ℕ) → cond t (refused 15 n) passed ≡ passed → t ≡ false
-not_refused true n e = absurd (let z : ◌≡◌ {A = ℕ} 0 1 = cc in let no : ⊥ = omega arith in no)
+not_refused true n e = cc
 not_refused false n e = refl
 
 all_passed : (a b y u v : Outcome Unit) → a ≡ passed → b ≡ passed → y ≡ passed → u ≡ passed → v ≡ passed
@@ -41,11 +40,10 @@ module _ (g : GuardedBlock) (early : EarlyPassed g.call) (k : Component) (run : 
   block_accepted e = ap quant_verdict (guard_call k g) ∙ quantiser_alone_is_late g.call early k run ∙ e
 
 module _ (g : GuardedBlock) (ok : guarded_verdict g ≡ passed) where
-  late : Outcome Unit
-  late = or_else (guarded_late Y g) (or_else (guarded_late U g) (guarded_late «V» g))
+  abbrev late : Outcome Unit
+  late = first_refusal (λ k. guarded_late k g)
 
   groups : (verdict settings_faults g.call ≡ passed) × (or_else (verdict buffer_faults g.call) late ≡ passed)
-  unfolding late
   groups =
       both_accepted (verdict settings_faults g.call) (or_else (verdict buffer_faults g.call) late)
       (sym (guarded_verdict_in_groups g) ∙ ok)
@@ -57,17 +55,8 @@ module _ (g : GuardedBlock) (ok : guarded_verdict g ≡ passed) where
   early_passed = record { settings = groups.0; buffer = behind_settings.0 }
 
   both_late : (k : Component) → (late_of k g.call ≡ passed) × (height_of k g ≡ passed)
-  unfolding late
   both_late k =
-      let y = both_accepted (guarded_late Y g) (or_else (guarded_late U g) (guarded_late «V» g)) behind_settings.1 in
-      let u = both_accepted (guarded_late U g) (guarded_late «V» g) y.1 in
-      both_accepted (late_of k g.call) (height_of k g) (of k y.0 u.0 u.1)
-    where
-      of : (k : Component) → guarded_late Y g ≡ passed → guarded_late U g ≡ passed → guarded_late «V» g ≡ passed
-          → guarded_late k g ≡ passed
-      of Y y u v = y
-      of U y u v = u
-      of «V» y u v = v
+      both_accepted (late_of k g.call) (height_of k g) (each_passed (λ k. guarded_late k g) behind_settings.1 k)
 
   pub late_passed : (k : Component) → late_of k g.call ≡ passed
   late_passed k = (both_late k).0

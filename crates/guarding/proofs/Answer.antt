@@ -1,6 +1,5 @@
 -- Answer and buffer of the guarded call by its verdict: accepted, what was coded of each component, and the three
 -- stretches of levels, each in its place; refused, the verdict's numbers and what the buffer held.
--- Assumes nothing.
 use mathlib.Core.Path.{◌≡◌, refl, ap, ◌∙◌}
 use mathlib.Core.Bool.{Bool, true, false}
 use mathlib.Core.List.{List, ◌++◌}

@@ -1,6 +1,5 @@
 -- The candidates of an accepted block: each has a magnitude for each place, and each of these is 0, m or m - 1. The
 -- last one is m throughout.
--- Assumes nothing.
 use mathlib.Core.Path.{◌≡◌, refl, sym, ap, subst, ◌∙◌}
 use mathlib.Core.Logic.{inl, inr, ⊎_elim}
 use mathlib.Core.Bool.{Bool, true, false, cond}

@@ -1,6 +1,5 @@
 -- The first entry of a list that passes a test. If some entry passes, it passes itself, and it stands at a place before
 -- which none does. What `some` says of each entry when none passes is `none_passes` of integers.
--- Assumes nothing.
 use mathlib.Core.Path.{◌≡◌, refl, sym, ◌∙◌}
 use mathlib.Core.Bool.{Bool, true, false, ◌||◌, true≢false}
 use mathlib.Core.List.{List, [], ◌∷◌}

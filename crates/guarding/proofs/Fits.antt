@@ -1,6 +1,5 @@
 -- What it says of a candidate that it fits, and that it does not; and what is written where one fits: a candidate, the
 -- first that fits. Where none fits, the plainly rounded block does not, which is the last.
--- Assumes nothing.
 use mathlib.Core.Path.{◌≡◌, refl, sym, ap, subst, ◌∙◌}
 use mathlib.Core.Logic.{◌⊎◌, inl, inr}
 use mathlib.Core.Bool.{Bool, true, false, ◌&&◌}
@@ -56,7 +55,7 @@ module _ (g : Guard) (ms : List ℕ) where
       by false d l ep ed el e = inl (ltb-false (price_with g.call ms) (2 ^ 62) ep)
       by true false l ep ed el e = inr (inl (leb-false (extremes_with g ms).darker g.heights.darker ed))
       by true true false ep ed el e = inr (inr (leb-false (extremes_with g ms).lighter g.heights.lighter el))
-      by true true true ep ed el e = absurd (let z : ◌≡◌ {A = ℕ} 0 1 = cc in let no : ⊥ = omega arith in no)
+      by true true true ep ed el e = cc
 
 -- ---- one of them fits
 module _ (g : Guard) (one : none_fits g ≡ false) where

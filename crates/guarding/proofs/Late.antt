@@ -1,6 +1,5 @@
 -- The verdict of the guarded call in groups: that of the three-component call's early tests, and then of Y, U and V in
 -- turn, of those that are run, what the quantiser alone says of it and whether none of its candidates fits.
--- Assumes nothing.
 use mathlib.Core.Path.{◌≡◌, refl, ap, ◌∙◌}
 use mathlib.Core.Bool.{cond, ◌&&◌}
 use mathlib.Core.List.{List, [], ◌∷◌, ◌++◌, map}

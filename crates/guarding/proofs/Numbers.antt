@@ -1,7 +1,6 @@
 -- The guarded call where the block that the mode writes fits, where it does not and the first candidate that does is
 -- written, of a skipped block too, and where none fits; and the order of its faults, computed over the definitions of
 -- the call. The accepted answers were worked out by programs that share nothing with these definitions.
--- Assumes nothing.
 use mathlib.Core.Path.{◌≡◌, refl}
 use mathlib.Core.Bool.{true}
 use mathlib.Core.List.{List, [], ◌∷◌, ◌++◌}

@@ -2,7 +2,6 @@
 -- a viewer decodes of it lies farther from the residual than the extremes reported, and these are within the host's
 -- heights; count, price and extremes reported are those of the levels left; each level is 0, or m or m - 1 with its
 -- coefficient's sign.
--- Assumes nothing.
 use mathlib.Core.Path.{◌≡◌, refl, sym, ap, ◌∙◌}
 use mathlib.Core.Logic.{◌⊎◌}
 use mathlib.Core.Bool.{true}

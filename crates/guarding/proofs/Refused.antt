@@ -1,13 +1,11 @@
 -- The guarded call answers 15 for one reason only: the quantiser alone accepts the block of the component told, and yet
 -- the plainly rounded block does not fit: its price reaches 2^62, or a sample that a viewer decodes of it lies farther
 -- from its residual than the host's height. 15 is the heights' number alone.
--- Assumes nothing.
 use mathlib.Core.Path.{◌≡◌, refl, sym, ◌∙◌}
 use mathlib.Core.Logic.{◌⊎◌, inl, inr, ⊎_elim}
 use mathlib.Core.Bool.{Bool, true, false, cond, ◌&&◌}
 use mathlib.Core.List.{List, [], ◌∷◌}
 use Prim.Native.Nat.{ℕ}
-use native.Mathlib.Omega.{arith}
 use borrow.Author.Tests.{eqb-false}
 use lib.Dec.{eqb}
 use Rattle.integers.specs.Tests.{some}
@@ -31,7 +29,7 @@ use Rattle.guarding.proofs.Accepted.{block_accepted}
 other_number : {I : Type 0} (n c : ℕ) (i : I) (fs : List (Fault I))
     → some (λ f. eqb (number_of f.refusal) n) fs ≡ false → verdict fs i ≡ refused n c → ⊥
 unfolding verdict some
-other_number n c i [] e v = let z : ◌≡◌ {A = ℕ} 0 1 = cc in omega arith
+other_number n c i [] e v = cc
 other_number n c i (f ∷ fs) e v =
     let two = neither (eqb (number_of f.refusal) n) (some (λ f. eqb (number_of f.refusal) n) fs) e in
     by (f.holds i) two.0 v (other_number n c i fs two.1)
@@ -82,11 +80,11 @@ module _ (g : GuardedBlock) (n : ℕ) where
     where
       by : (t : Bool) → cond t (verdict late_faults (quant_of k g.call)) passed ≡ refused 15 n → ⊥
       by true e = other_number 15 n (quant_of k g.call) late_faults late_other e
-      by false e = let z : ◌≡◌ {A = ℕ} 0 1 = cc in omega arith
+      by false e = cc
 
   refusing : (t : Bool) (c : ℕ) → cond t (refused 15 c) passed ≡ refused 15 n → (t ≡ true) × (c ≡ n)
   refusing true c e = (refl, cc)
-  refusing false c e = absurd (let z : ◌≡◌ {A = ℕ} 0 1 = cc in let no : ⊥ = omega arith in no)
+  refusing false c e = cc
 
   of_late : EarlyPassed g.call → (k : Component) → guarded_late k g ≡ refused 15 n → Unguardable g n
   unfolding guard_of

@@ -1,7 +1,6 @@
 -- What a viewer shows of an accepted guarded call, whatever the guess was: every sample of a component that is run lies
 -- within the host's heights of what the camera saw, and one threshold tells paper from ink. And the extremes that the
 -- call reports are reached, so that they are the exact ones.
--- Assumes nothing.
 use mathlib.Core.Path.{◌≡◌, subst, sym}
 use mathlib.Core.Logic.{◌⊎◌}
 use mathlib.Core.Bool.{true}

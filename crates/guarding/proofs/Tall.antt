@@ -1,7 +1,6 @@
 -- Heights of 33791 and more change nothing: the guarded call then has the verdict of the call without heights, reports
 -- the same counts and prices, and leaves the same buffer. No sample can be farther off than that, and the price of the
 -- block that the mode writes is below 2^62 anyway: so the first candidate fits.
--- Assumes nothing.
 use mathlib.Core.Path.{◌≡◌, refl, sym, ap, subst, ◌∙◌}
 use mathlib.Core.Bool.{Bool, true, false, cond, ◌&&◌}
 use mathlib.Core.List.{List, ◌++◌}

@@ -1,7 +1,6 @@
 -- The guarded call from its components in turn, once the early tests have passed: one not run answers 0 throughout; of
 -- one that is run, the quantiser alone accepts its coefficients, and the first candidate that fits is held, or else it
 -- is refused. The first refusal of Y, U and V is the call's.
--- Assumes nothing.
 use mathlib.Core.Path.{◌≡◌, refl, sym, ap, ◌∙◌}
 use mathlib.Core.Bool.{Bool, true, false, cond, ◌&&◌}
 use Rattle.refusals.specs.declared.Component.{Component}
@@ -12,39 +11,21 @@ use Rattle.refusals.proofs.First.{or_else}
 use Rattle.coding.specs.Call.{quant_verdict}
 use Rattle.components.specs.Call.{runs, quant_on, quant_of}
 use Rattle.components.specs.Inner.Groups.{buffer_faults, EarlyPassed}
+use Rattle.components.specs.Inner.Turns.{past, joined}
+use Rattle.components.proofs.Turns.{joined_outcomes}
 use Rattle.components.proofs.Late.{late_of}
 use Rattle.components.proofs.Alone.{quantiser_alone_is_late}
 use Rattle.guarding.specs.declared.Guarded.{Guarded}
 use Rattle.guarding.specs.Block.{none_fits, reported}
-use Rattle.guarding.specs.Call.{GuardedBlock, guard_of, nothing, share, Shares, coded, guarded_verdict}
+use Rattle.guarding.specs.Call.{GuardedBlock, guard_of, nothing, share, guarded_verdict}
 use Rattle.guarding.specs.Call.{guarded_answer}
 use Rattle.guarding.specs.Inner.Held.{held_answer}
 use Rattle.guarding.proofs.Late.{height_of, guarded_late, guarded_verdict_in_groups}
 use Rattle.guarding.proofs.Answer.{answer_whole}
 
--- the second where the first is accepted
-abbrev pub and_then : {A : Type 0} → Outcome Unit → Outcome A → Outcome A
-and_then (accepted u) o = o
-and_then (refused n c) o = refused n c
-
 abbrev pub component_answer : Component → GuardedBlock → Outcome Guarded
 component_answer k g =
-    cond (runs k g.call) (and_then (quant_verdict (quant_of k g.call)) (held_answer (guard_of k g))) (accepted nothing)
-
--- three answers as one
-abbrev pub in_turn : (y u v : Outcome Guarded) → Outcome Shares
-in_turn (accepted a) (accepted b) (accepted c) = coded a b c
-in_turn (accepted a) (accepted b) (refused n k) = refused n k
-in_turn (accepted a) (refused n k) v = refused n k
-in_turn (refused n k) u v = refused n k
-
-in_turn_lem : (x y z : Outcome Unit) (a b c : Guarded)
-    → in_turn (answering x a) (answering y b) (answering z c)
-    ≡ answering (or_else x (or_else y z)) (record { y = a; u = b; v = c })
-in_turn_lem (refused m k) y z a b c = refl
-in_turn_lem (accepted x) (refused m k) z a b c = refl
-in_turn_lem (accepted x) (accepted y) (refused m k) a b c = refl
-in_turn_lem (accepted x) (accepted y) (accepted z) a b c = refl
+    cond (runs k g.call) (past (quant_verdict (quant_of k g.call)) (held_answer (guard_of k g))) (accepted nothing)
 
 -- what is held of a component's block
 held_is : (k : Component) (g : GuardedBlock)
@@ -59,20 +40,20 @@ module _ (g : GuardedBlock) (early : EarlyPassed g.call) where
   component_answer_lem k = by (runs k g.call) refl
     where
       held : (v : Outcome Unit) (n : Bool) (a : Guarded)
-          → and_then v (cond n (refused 15 (component_of k)) (accepted a))
+          → past v (cond n (refused 15 (component_of k)) (accepted a))
           ≡ answering (or_else v (cond n (refused 15 (component_of k)) passed)) a
       held (accepted u) true a = refl
       held (accepted u) false a = refl
       held (refused m c) n a = refl
 
       by : (t : Bool) → runs k g.call ≡ t
-          → cond t (and_then (quant_verdict (quant_of k g.call)) (held_answer (guard_of k g))) (accepted nothing)
+          → cond t (past (quant_verdict (quant_of k g.call)) (held_answer (guard_of k g))) (accepted nothing)
           ≡ answering
           (or_else (late_of k g.call) (cond (t && none_fits (guard_of k g)) (refused 15 (component_of k)) passed))
           (cond t (reported (guard_of k g)) nothing)
       by true e =
-          ap (λ (v : Outcome Unit). and_then v (held_answer (guard_of k g))) (quantiser_alone_is_late g.call early k e)
-          ∙ ap (and_then (late_of k g.call)) (held_is k g)
+          ap (λ (v : Outcome Unit). past v (held_answer (guard_of k g))) (quantiser_alone_is_late g.call early k e)
+          ∙ ap (past (late_of k g.call)) (held_is k g)
           ∙ held (late_of k g.call) (none_fits (guard_of k g)) (reported (guard_of k g))
       by false e = rw e refl
 
@@ -84,10 +65,10 @@ module _ (g : GuardedBlock) (early : EarlyPassed g.call) where
       ∙ ap (λ (v : Outcome Unit). or_else v late) early.buffer
 
   pub answer_in_turn :
-      in_turn (component_answer Y g) (component_answer U g) (component_answer «V» g) ≡ guarded_answer g
+      joined (component_answer Y g) (component_answer U g) (component_answer «V» g) ≡ guarded_answer g
   answer_in_turn =
-      (λ i. in_turn (component_answer_lem Y i) (component_answer_lem U i) (component_answer_lem «V» i))
-      ∙ in_turn_lem (guarded_late Y g) (guarded_late U g) (guarded_late «V» g) (share Y g) (share U g) (share «V» g)
+      (λ i. joined (component_answer_lem Y i) (component_answer_lem U i) (component_answer_lem «V» i))
+      ∙ joined_outcomes (guarded_late Y g) (guarded_late U g) (guarded_late «V» g) (share Y g) (share U g) (share «V» g)
       ∙ ap (λ (v : Outcome Unit). answering v (record { y = share Y g; u = share U g; v = share «V» g }))
       (sym verdict_late)
       ∙ sym (answer_whole g)

@@ -1,7 +1,6 @@
 -- The levels that the quantiser leaves, written as a run list. Whatever it accepts, the writer accepts, with a symbol
 -- for each level of the count that it answered: a list with as many places is enough. Read again, the filled places
 -- give the levels back.
--- Assumes nothing.
 use mathlib.Core.Path.{◌≡◌, refl, sym, ap, subst, ◌∙◌}
 use mathlib.Core.Logic.{⊎_elim, inl, inr}
 use mathlib.Core.Bool.{Bool, true, false, cond}

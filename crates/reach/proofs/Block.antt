@@ -1,6 +1,5 @@
 -- A guarded block's last candidate, which is m throughout, lies within the bound: its levels are m with their signs at
 -- every place, as the scan meets each.
--- Assumes nothing.
 use mathlib.Core.Path.{◌≡◌, refl, ap, subst, ◌∙◌}
 use mathlib.Core.List.{List, [], ◌∷◌, map}
 use Prim.Native.Nat.{ℕ, ◌*◌, ◌^◌, ◌≤◌, ◌<◌}

@@ -1,6 +1,5 @@
 -- A host whose heights reach the bound of a component's side and QP is never refused for them: where the guarded call
 -- answers 15 of that component, the price of its plainly rounded block reaches 2^62.
--- Assumes nothing.
 use mathlib.Core.Path.{◌≡◌, refl, sym, ap, subst, ◌∙◌}
 use mathlib.Core.Logic.{⊎_elim}
 use mathlib.Core.Bool.{true}

@@ -1,6 +1,5 @@
 -- How far a coefficient comes back off: its level m, scaled back, lies as near to it as `strayed` says. The level is
 -- within half a step of the coefficient times q, the scales q and s together nearly come to 2^20, and the shift rounds.
--- Assumes nothing.
 use mathlib.Core.Path.{◌≡◌, refl, sym, ap, ◌∙◌}
 use Prim.Native.Nat.{ℕ, suc, ◌+◌, ◌-◌, ◌*◌, ◌/◌, ◌^◌, ◌≤◌}
 use native.Mathlib.Nat.{mul_comm, mul_left_comm, mul-le-mul_left}

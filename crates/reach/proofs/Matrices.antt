@@ -1,6 +1,5 @@
 -- What the bound takes of the matrices, by one computed test each over the sides: the magnitudes of a column add up to
 -- at most its gain, and the products of a column with all columns are together at most its skew off.
--- Assumes nothing.
 use mathlib.Core.Bool.{Bool}
 use Prim.Native.Nat.{ℕ, suc, ◌+◌, ◌^◌, ◌≤◌, ◌<◌}
 use native.Mathlib.Omega.{arith}

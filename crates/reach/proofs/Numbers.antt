@@ -1,6 +1,5 @@
 -- The bound in numbers, of sides 2, 4, 8, 16 and 32: it is at most 128 up to QP 46, 38, 32, 26 and 10, but for QP 5 at
 -- side 32, whose scales miss 2^20 by most. At QP 0 it is little more than what the two transforms alone leave.
--- Assumes nothing.
 use mathlib.Core.Path.{◌≡◌, refl}
 use mathlib.Core.Bool.{Bool, ◌||◌}
 use mathlib.Core.List.{List, [], ◌∷◌, map}

@@ -1,6 +1,5 @@
 -- Plain rounding's reach: where every level is m, no sample that a viewer decodes is farther from its residual than
 -- the bound. Of residuals that fill a square block and are at most 1023, whatever the QP.
--- Assumes nothing.
 use mathlib.Core.Path.{◌≡◌, refl, sym, ap, ◌∙◌}
 use mathlib.Core.List.{List, map}
 use Prim.Native.Nat.{ℕ, ◌+◌, ◌-◌, ◌*◌, ◌/◌, ◌%◌, ◌^◌, ◌≤◌, ◌<◌}

@@ -1,7 +1,6 @@
 -- There and back: rows t of n weights, applied to the values from both sides and then turned from both sides, come to
 -- the products of columns with columns. What is near before a sum of products is near behind it, by the weights'
 -- magnitudes; and where the columns are nearly at right angles, what comes back is near a multiple of what went.
--- Assumes nothing.
 use mathlib.Core.Path.{◌≡◌, refl, sym, ap, ◌∙◌}
 use mathlib.Core.Logic.{⊎_elim}
 use mathlib.Core.Bool.{cond}

@@ -16,8 +16,8 @@ use Rattle.components.specs.declared.Request.{Request}
 use Rattle.components.specs.Call.{SubBlock, requested, stretch}
 use Rattle.components.specs.Inner.Groups.{settings_faults, buffer_faults, EarlyPassed}
 use Rattle.admission.specs.Inner.Tested.{Sizes, residuals}
-use Rattle.stretch.specs.Inner.Part.{past}
-use Rattle.turns.specs.Inner.Parts.{joined, Parted, Called}
+use Rattle.components.specs.Inner.Turns.{past, joined}
+use Rattle.turns.specs.Inner.Parts.{Parted, Called}
 use Rattle.turns.proofs.Passed.{room_holds}
 use Rattle.turns.proofs.Alone.{three_end}
 

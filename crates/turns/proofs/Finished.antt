@@ -4,7 +4,6 @@
 use mathlib.Core.Path.{◌≡◌, refl, sym, ap, ◌∙◌}
 use mathlib.Core.List.{List, ◌++◌}
 use Prim.Native.Nat.{ℕ, ◌+◌}
-use native.Mathlib.Omega.{arith}
 use lib.ListN.{drop}
 use lib.IntN.{ℤ}
 use Rattle.std.specs.Prelude.{Result, Ok, Err}
@@ -13,33 +12,23 @@ use Rattle.refusals.specs.declared.Three.{Three}
 use Rattle.refusals.specs.declared.Component.{Component}
 use Rattle.refusals.specs.declared.Component.TheVariants.{Y, U, «V»}
 use Rattle.refusals.specs.Faults.{Outcome, accepted, passed, refused, verdict, answering, if_accepted, outcome_by}
-use Rattle.refusals.proofs.First.{or_else, both_accepted}
+use Rattle.refusals.proofs.First.{or_else}
 use Rattle.price.specs.declared.Costs.{Costs}
 use Rattle.components.specs.declared.Request.{Request}
 use Rattle.components.specs.Call.{SubBlock, requested, stretch, start, area}
 use Rattle.components.specs.Inner.Groups.{settings_faults, buffer_faults, EarlyPassed}
-use Rattle.stretch.specs.Inner.Part.{past}
-use Rattle.turns.specs.Inner.Parts.{joined, Called}
+use Rattle.components.specs.Inner.Turns.{past, joined}
+use Rattle.components.proofs.Turns.{first_refusal, each_passed, joined_outcomes}
+use Rattle.turns.specs.Inner.Parts.{Called}
 
 module _ {A : Type 0} where
-  abbrev three : (y u v : A) → Three A
-  three y u v = record { y = y; u = u; v = v }
-
-  -- three verdicts as one
-  joined_outcomes : (x y z : Outcome Unit) (a b c : A)
-      → joined (answering x a) (answering y b) (answering z c) ≡ answering (or_else x (or_else y z)) (three a b c)
-  joined_outcomes (refused m k) y z a b c = refl
-  joined_outcomes (accepted x) (refused m k) z a b c = refl
-  joined_outcomes (accepted x) (accepted y) (refused m k) a b c = refl
-  joined_outcomes (accepted x) (accepted y) (accepted z) a b c = refl
-
   -- what is answered is Ok, and what is refused Err
   ok_of : (r : Result A Refused) (a : A) → outcome_by (λ x. x) r ≡ accepted a → r ≡ Ok a
   ok_of (Ok x) a e = let i : x ≡ a = cc in ap Ok i
-  ok_of (Err x) a e = absurd (let z : ◌≡◌ {A = ℕ} 0 1 = cc in let no : ⊥ = omega arith in no)
+  ok_of (Err x) a e = cc
 
   err_of : (r : Result A Refused) (n c : ℕ) → outcome_by (λ x. x) r ≡ refused n c → (x : Refused) × (r ≡ Err x)
-  err_of (Ok x) n c e = absurd (let z : ◌≡◌ {A = ℕ} 0 1 = cc in let no : ⊥ = omega arith in no)
+  err_of (Ok x) n c e = cc
   err_of (Err x) n c e = (x, refl)
 
 module _ {A : Type 0} (b : List ℤ) (t : Costs) (q : Request) (answers : Component → List ℤ → Outcome A)
@@ -49,10 +38,10 @@ module _ {A : Type 0} (b : List ℤ) (t : Costs) (q : Request) (answers : Compon
   s = requested b t q
 
   abbrev all_late : Outcome Unit
-  all_late = or_else (late Y) (or_else (late U) (late «V»))
+  all_late = first_refusal late
 
   abbrev shares : Three A
-  shares = three (share Y) (share U) (share «V»)
+  shares = record { y = share Y; u = share U; v = share «V» }
 
   abbrev coded : List ℤ
   coded = levels Y ++ (levels U ++ (levels «V» ++ drop (start «V» s + area «V» s) s.buffer))
@@ -75,13 +64,11 @@ module _ {A : Type 0} (b : List ℤ) (t : Costs) (q : Request) (answers : Compon
         → all_late ≡ w → Ends
     ends_late early e f (refused n c) g = ends_refused n c (e ∙ rw g) (f ∙ g)
     ends_late early e f (accepted u) g =
-        let y = both_accepted (late Y) (or_else (late U) (late «V»)) g in
-        let uv = both_accepted (late U) (late «V») y.1 in
-        let is = known.left early in
+        let is = λ (k : Component). known.left early k (each_passed late g k) in
         let rest = drop (start «V» s + area «V» s) s.buffer in (
           e ∙ ap (λ (x : Outcome Unit). answering x shares) (sym f),
           called.left shares (ok_of r shares (e ∙ rw g))
-              ∙ (λ i. is Y y.0 i ++ (is U uv.0 i ++ (is «V» uv.1 i ++ rest)))
+              ∙ (λ i. is Y i ++ (is U i ++ (is «V» i ++ rest)))
               ∙ (λ i. if_accepted (sym (f ∙ g) i) coded s.buffer),
         )
 

@@ -1,24 +1,20 @@
 -- What the early tests of the three-component call leave: each component is ready to be coded, and its residuals stand
 -- at the front of the buffer.
-use mathlib.Core.Path.{◌≡◌, refl, sym, ap, subst, ◌∙◌}
+use mathlib.Core.Path.{◌≡◌, sym, ap, subst, ◌∙◌}
 use mathlib.Core.List.{List}
 use Prim.Native.Nat.{ℕ, ◌+◌, ◌*◌, ◌/◌, ◌^◌, ◌≤◌}
 use native.Mathlib.Omega.{arith}
-use lib.Dec.{ltb}
 use lib.ListN.{length, take}
 use lib.Seq.{length-take-le}
 use lib.IntN.{ℤ}
 use Rattle.integers.proofs.Lists.{part_of_front}
 use Rattle.refusals.specs.declared.Component.{Component}
 use Rattle.refusals.specs.declared.Component.TheVariants.{Y, U, «V»}
-use Rattle.refusals.specs.Three.{part_of}
 use Rattle.refusals.specs.Sides.{most_log2}
 use Rattle.refusals.specs.Faults.{passed, verdict}
-use Rattle.price.specs.declared.Settings.{Settings}
-use Rattle.price.specs.Lambda.{lambda_refused}
 use Rattle.price.specs.declared.Costs.{Costs}
 use Rattle.components.specs.declared.Request.{Request}
-use Rattle.components.specs.Call.{SubBlock, requested, runs, settings_of, area, stretch}
+use Rattle.components.specs.Call.{SubBlock, requested, runs, area, stretch}
 use Rattle.components.specs.Inner.Groups.{settings_faults, EarlyPassed}
 use Rattle.components.proofs.Accepted.{sides_fine, qp_fine, lambda_fine, costs_fine, long_enough, residuals_tame}
 use Rattle.components.proofs.Alone.{stretch_long}
@@ -35,13 +31,6 @@ module _ (b : List ℤ) (t : Costs) (q : Request) where
   unfolding requested
   log2_fine e = (sides_fine s e).0
 
-  -- a request's settings are those of its call
-  settings_are : (k : Component) → settings_of k s ≡ part_of k q.settings
-  unfolding requested
-  settings_are Y = refl
-  settings_are U = refl
-  settings_are «V» = refl
-
   log2_is : (k : Component) → length (stretch k s) ≡ area k s
       → length (stretch k s) ≡ 2 ^ log2_in k q * 2 ^ log2_in k q
   unfolding area requested
@@ -56,10 +45,9 @@ module _ (b : List ℤ) (t : Costs) (q : Request) where
           high = (log2_fine early.settings).1;
           long = log2_is k (stretch_long s early k);
           costs = costs_fine s early.buffer;
-          qp = λ h. ap (λ (x : Settings). ltb 63 x.qp) (sym (settings_are k)) ∙ qp_fine s early.settings k h;
-          lambda = λ h. ap (λ (x : Settings). lambda_refused x.lambda) (sym (settings_are k))
-              ∙ lambda_fine s early.settings k h;
-          tame = λ h. residuals_tame s early.buffer k h;
+          qp = qp_fine s early.settings k;
+          lambda = lambda_fine s early.settings k;
+          tame = residuals_tame s early.buffer k;
         }
 
     module _ (n : ℕ) (z : Sizes q.log2_luma n) where

@@ -1,7 +1,6 @@
 -- P1 and P3 to P12 as one theorem over the definitions of the calls: refusal, count, price, levels. Those of small
 -- blocks are computed beside their definitions; those of side 32 here, each by itself, so that no two are in memory at
 -- once.
--- Assumes nothing.
 use mathlib.Core.Path.{◌≡◌, refl}
 use mathlib.Core.Bool.{true, false}
 use mathlib.Core.List.{◌∷◌, ◌++◌}

@@ -10,7 +10,8 @@ use Rattle.coding.specs.Call.{quant_verdict}
 use Rattle.coding.specs.declared.Coded.{Coded}
 use Rattle.components.specs.declared.Request.{Request}
 use Rattle.components.specs.Call.{bit}
-use Rattle.stretch.specs.Inner.Part.{coding_of, past}
+use Rattle.components.specs.Inner.Turns.{past}
+use Rattle.stretch.specs.Inner.Part.{coding_of}
 use Rattle.refusals.specs.declared.Three.{Three}
 use Rattle.refusals.specs.Three.{part_of}
 use Rattle.heights.specs.declared.Heights.{Heights}

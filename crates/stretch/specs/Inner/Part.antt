@@ -4,7 +4,7 @@ use Rattle.std.specs.Prelude.{◌≡◌, true, false, cond, List, ℕ, ◌*◌, 
 use Rattle.integers.specs.Tests.{some}
 use Rattle.refusals.specs.declared.Component.{Component}
 use Rattle.refusals.specs.Sides.{most_log2}
-use Rattle.refusals.specs.Faults.{Outcome, accepted, refused}
+use Rattle.refusals.specs.Faults.{Outcome}
 use Rattle.transform.specs.Coefficients.{coefficients}
 use Rattle.transform.specs.Call.{wild}
 use Rattle.price.specs.Lambda.{lambda_refused}
@@ -55,8 +55,3 @@ part_answer k t q r = let a = quant_answer (quant_in k t q r) in cond (bit k q.r
 unfoldable pub part_left : Component → Costs → Request → List ℤ → List ℤ
 unfolding quant_buffer quant_in
 part_left k t q r = let after = quant_buffer (quant_in k t q r) in cond (bit k q.run) after r
-
--- an answer that is given only past a verdict
-abbrev pub past : {A : Type 0} → Outcome Unit → Outcome A → Outcome A
-past (accepted u) a = a
-past (refused n c) a = refused n c

@@ -5,25 +5,19 @@ use Rattle.refusals.specs.declared.Refused.{Refused}
 use Rattle.refusals.specs.declared.Three.{Three}
 use Rattle.refusals.specs.declared.Component.{Component}
 use Rattle.refusals.specs.declared.Component.TheVariants.{Y, U, «V»}
-use Rattle.refusals.specs.Faults.{Outcome, accepted, refused, verdict, outcome_by}
+use Rattle.refusals.specs.Faults.{Outcome, verdict, outcome_by}
 use Rattle.price.specs.declared.Costs.{Costs}
 use Rattle.components.specs.declared.Request.{Request}
 use Rattle.components.specs.Call.{SubBlock, stretch, start, area}
+use Rattle.components.specs.Inner.Turns.{past, joined}
 use Rattle.components.specs.Inner.Groups.{settings_faults, buffer_faults}
 use Rattle.admission.specs.Inner.Tested.{Sizes, residuals}
-use Rattle.stretch.specs.Inner.Part.{Ready, past}
+use Rattle.stretch.specs.Inner.Part.{Ready}
 
 pub record AllReady (t : Costs) (q : Request) (n : ℕ) (l : List ℤ) : Type 0 where
   pub sizes : Sizes q.log2_luma n
   pub long : length l ≡ n + n / 4 + n / 4
   pub parts : (k : Component) → Ready k t q (residuals k n l)
-
--- three answers as one: the first refusal, or what was coded of each
-abbrev pub joined : {A : Type 0} → (y u v : Outcome A) → Outcome (Three A)
-joined (refused n c) u v = refused n c
-joined (accepted a) (refused n c) v = refused n c
-joined (accepted a) (accepted b) (refused n c) = refused n c
-joined (accepted a) (accepted b) (accepted c) = accepted (record { y = a; u = b; v = c })
 
 -- by what each component answers and leaves of its residuals in the room: the answer, and the room where nothing was
 -- refused
