@@ -10,6 +10,7 @@ ghost use Rattle.tables.specs.Matrix.{matrix};
 ghost use Rattle.tables.specs.Inner.OddRows.{odd_rows};
 ghost use Rattle.butterfly.specs.Inner.Lines.{Folded, gained, spent, Halved, Row, Room};
 
+use refusals::ranges::Side;
 use tables::number::Number;
 use tables::odd_rows::OddRows;
 
@@ -122,14 +123,13 @@ pub fn line32(rows: &OddRows<i32>, x: &[i32], row: &mut [i32])
     line16(rows, &e, row);
 }
 
-// The line of side 2^log2.
+// The line of a side.
 #[inline(always)]
-pub fn line(log2: usize, rows: &OddRows<i32>, x: &[i32], row: &mut [i32])
-    requires side { (1 ≤ log2) × (log2 ≤ most_log2) }
-    requires x_len { (length x.now ≡ 2 ^ log2) × (2 ^ log2 ≤ length row.old) × Room log2 x.now }
-    ensures { Row matrix log2 x.now row.old row.new }
+pub fn line(side: Side, rows: &OddRows<i32>, x: &[i32], row: &mut [i32])
+    requires { (length x.now ≡ 2 ^ side.log2) × (2 ^ side.log2 ≤ length row.old) × Room side.log2 x.now }
+    ensures { Row matrix side.log2 x.now row.old row.new }
 {
-    match log2 {
+    match side.log2 {
         1 => line2(x, row),
         2 => line4(rows, x, row),
         3 => line8(rows, x, row),

@@ -4,9 +4,10 @@
 
 ghost use Rattle.std.specs.Prelude.{◌*◌, ◌^◌, ◌<◌, ◌≤◌, ◌≡◌, length, get_or};
 ghost use Rattle.integers.specs.Sum.{at};
-ghost use Rattle.refusals.specs.Sides.{most_log2};
 ghost use Rattle.butterfly.specs.Inner.Lines.{place};
 ghost use Rattle.columns.specs.Inner.Placed.{PlacedOf, Placed};
+
+use refusals::ranges::Side;
 
 // Where coefficient k stands in a row of side 32; a row of a smaller side has it at k times 32 over the side.
 const PLACES: [u8; 32] = [
@@ -25,11 +26,9 @@ pub fn store<T: Copy>(b: &[T], dst: &mut [T], width: usize, c: usize)
 }
 
 // The coefficients of a row in their own order, down column c of a grid.
-pub fn store_row(log2: usize, row: &[i32], dst: &mut [i32], width: usize, c: usize)
-    requires { (log2 ≤ most_log2) × (length row.now ≡ 2 ^ log2) × (c < width)
-        × (2 ^ log2 * width ≤ length dst.old) }
-    ensures { Placed width c (2 ^ log2) (λ k. at row.now (place log2 k)) dst.old
-        dst.new }
+pub fn store_row(side: Side, row: &[i32], dst: &mut [i32], width: usize, c: usize)
+    requires { (length row.now ≡ 2 ^ side.log2) × (c < width) × (2 ^ side.log2 * width ≤ length dst.old) }
+    ensures { Placed width c (2 ^ side.log2) (λ k. at row.now (place side.log2 k)) dst.old dst.new }
 {
     let places = PLACES;
     let n = row.len();

@@ -13,6 +13,7 @@ ghost use Rattle.halves.specs.Inner.Halves.{beyond, half, over};
 
 use butterfly::line32;
 use columns::store_row;
+use refusals::ranges::Side;
 use tables::odd_rows::{OddRows, wide_rows};
 
 // Whether a value is too large for the sums of its line.
@@ -111,6 +112,6 @@ pub fn half_stage(src: &[i32], dst: &mut [i32])
         let e = a + 32;
         let mut row = [0i32; 32];
         half_line(&rows, &src[a..e], &mut row);
-        store_row(5, &row, dst, 32, j);
+        store_row(Side { log2: 5 }, &row, dst, 32, j);
     }
 }

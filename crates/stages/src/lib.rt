@@ -4,28 +4,28 @@
 
 ghost use Rattle.std.specs.Prelude.{◌≡◌, ◌+◌, ◌*◌, ◌^◌, ◌<◌, ◌≤◌, length};
 ghost use Rattle.integers.specs.Sum.{at};
-ghost use Rattle.refusals.specs.Sides.{most_log2};
 ghost use Rattle.tables.specs.Matrix.{matrix};
 ghost use Rattle.butterfly.specs.Inner.Lines.{Room};
 ghost use Rattle.stages.specs.Inner.Stages.{Columns, Staged, stage_at};
 
 use butterfly::{fold, line, line8, odd_half};
 use columns::{store, store_row};
+use refusals::ranges::Side;
 use tables::odd_rows::wide_rows;
 
-// The lines of side N, 2^log2.
-fn each_line<const N: usize>(log2: usize, lines: usize, src: &[i32], dst: &mut [i32])
-    requires side { (N ≡ 2 ^ log2) × (1 ≤ log2) × (log2 ≤ most_log2) × (lines ≤ 32) × Room log2 src.now }
+// The lines of a side of N.
+fn each_line<const N: usize>(side: Side, lines: usize, src: &[i32], dst: &mut [i32])
+    requires side { (N ≡ 2 ^ side.log2) × (lines ≤ 32) × Room side.log2 src.now }
     requires src_len { (length src.now ≡ lines * N) × (length dst.old ≡ N * lines) }
-    ensures { Staged matrix (λ z. z) log2 lines src.now dst.new lines }
+    ensures { Staged matrix (λ z. z) side.log2 lines src.now dst.new lines }
 {
     let rows = wide_rows();
     for j in 0..lines {
         let a = j * N;
         let e = a + N;
         let mut row = [0i32; N];
-        line(log2, &rows, &src[a..e], &mut row);
-        store_row(log2, &row, dst, lines, j);
+        line(side, &rows, &src[a..e], &mut row);
+        store_row(side, &row, dst, lines, j);
     }
 }
 
@@ -65,25 +65,25 @@ fn evens16(lines: usize, src: &[i32], dst: &mut [i32])
         let mut row = [0i32; 8];
         fold(&src[a..z], &mut e, &mut o);
         line8(&rows, &e, &mut row);
-        store_row(3, &row, dst, 2 * lines, j);
+        store_row(Side { log2: 3 }, &row, dst, 2 * lines, j);
     }
 }
 
-// The lines of side 2^log2, as many as `lines`.
-pub fn stage(log2: usize, lines: usize, src: &[i32], dst: &mut [i32])
-    requires le_log2 { (1 ≤ log2) × (log2 ≤ most_log2) × (lines ≤ 32) × Room log2 src.now }
-    requires src_len { (length src.now ≡ lines * 2 ^ log2) × (length dst.old ≡ 2 ^ log2 * lines) }
-    ensures { Staged matrix (λ z. z) log2 lines src.now dst.new lines }
+// The lines of a side, as many as `lines`.
+pub fn stage(side: Side, lines: usize, src: &[i32], dst: &mut [i32])
+    requires room { (lines ≤ 32) × Room side.log2 src.now }
+    requires src_len { (length src.now ≡ lines * 2 ^ side.log2) × (length dst.old ≡ 2 ^ side.log2 * lines) }
+    ensures { Staged matrix (λ z. z) side.log2 lines src.now dst.new lines }
 {
-    match log2 {
-        1 => each_line::<2>(1, lines, src, dst),
-        2 => each_line::<4>(2, lines, src, dst),
-        3 => each_line::<8>(3, lines, src, dst),
-        4 if lines == 2 => each_line::<16>(4, lines, src, dst),
+    match side.log2 {
+        1 => each_line::<2>(side, lines, src, dst),
+        2 => each_line::<4>(side, lines, src, dst),
+        3 => each_line::<8>(side, lines, src, dst),
+        4 if lines == 2 => each_line::<16>(side, lines, src, dst),
         4 => {
             odds16(lines, src, dst);
             evens16(lines, src, dst);
         }
-        _ => each_line::<32>(5, lines, src, dst),
+        _ => each_line::<32>(side, lines, src, dst),
     }
 }

@@ -8,7 +8,8 @@ ghost use Rattle.refusals.specs.Faults.{verdict_outcome};
 ghost use Rattle.transform.specs.Call.{called, trans_buffer, trans_verdict, wild};
 
 use block::transform;
-use refusals::{Refusal, no_side, side};
+use refusals::Refusal;
+use refusals::ranges::Side;
 
 mod block;
 
@@ -28,16 +29,15 @@ pub fn trans(block: &mut [i16], log2_w: usize, log2_h: usize) -> Result<(), Refu
     ensures answer { verdict_outcome result ≡ trans_verdict (called block.old log2_w log2_h) }
     ensures buffer { block.new ≡ trans_buffer (called block.old log2_w log2_h) }
 {
-    if no_side(log2_w) || no_side(log2_h) {
-        return Err(Refusal::Side);
-    }
-    let n = side(log2_w) * side(log2_h);
+    let width = Side::try_from(log2_w)?;
+    let height = Side::try_from(log2_h)?;
+    let n = width.length() * height.length();
     if block.len() < n {
         return Err(Refusal::Length);
     }
     if has_wild(&block[..n]) {
         return Err(Refusal::Sample);
     }
-    transform(&mut block[..n], log2_w, log2_h);
+    transform(&mut block[..n], width, height);
     Ok(())
 }

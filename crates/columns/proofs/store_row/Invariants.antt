@@ -8,4 +8,4 @@ use Rattle.columns.proofs.store_row.Given as goal
 
 abbrev pub invariant-loop-k : goal.invariant-loop-k
 invariant-loop-k l =
-    (l.places ≡ table) × Placed l.width l.c l.k (λ i. at l.row (place l.log2 i)) l.initial.dst l.dst
+    (l.places ≡ table) × Placed l.width l.c l.k (λ i. at l.row (place l.fn.side.log2 i)) l.initial.dst l.dst

@@ -4,4 +4,4 @@ use Rattle.stages.specs.Inner.Stages.{Staged}
 use Rattle.stages.proofs.each_line.Given as goal
 
 abbrev pub invariant-loop-j : goal.invariant-loop-j
-invariant-loop-j g l = Staged matrix (λ z. z) l.log2 l.lines l.src l.dst l.j
+invariant-loop-j g l = Staged matrix (λ z. z) l.side.log2 l.lines l.src l.dst l.j

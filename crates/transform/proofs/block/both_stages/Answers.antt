@@ -28,93 +28,82 @@ seconds lh lw w b a e = subst (λ (n : ℕ). Staged matrix (λ z. z) lh n b a n)
 
 -- the first stage of the block
 module _ (c : After-stage) where
-  first : Staged matrix (λ z. z) c.args.lw (2 ^ c.args.lh) c.args.block.now c.stage.new.dst (2 ^ c.args.lh)
+  first : Staged matrix (λ z. z) c.args.width.log2 (2 ^ c.args.height.log2) c.args.block.now c.stage.new.dst (2 ^ c.args.height.log2)
   first =
-      widened_stage c.args.lw c.args.lh c.requires.le_lw.1 c.requires.le_lw.3 c.args.block.now c.requires.block_len.0
-      c.requires.by_index c.widen.new.wide (omega arith) c.widen.ensures c.side-h.result c.stage.new.dst
-      c.side-h.ensures.0 c.stage.ensures
+      widened_stage c.args.width.log2 c.args.height.log2 c.args.width.in_range.1 c.args.height.in_range.1 c.args.block.now c.requires.block_len.0
+      c.requires.by_index c.widen.new.wide (omega arith) c.widen.ensures c.length.result c.stage.new.dst
+      c.length.ensures.0 c.stage.ensures
 
-pub stage-requires-clause-le_log2 : goal.stage-requires-clause-le_log2
-stage-requires-clause-le_log2 c =
-    let a = c.args in
-    let p = c.requires.le_lw in (
-      p.0,
-      p.1,
-      c.side-h.ensures.1,
-      widened_room a.lw a.lh p.1 p.3 a.block.now c.requires.block_len.0 c.requires.by_index c.widen.new.wide
+pub stage-requires-clause-room : goal.stage-requires-clause-room
+stage-requires-clause-room c =
+    let a = c.args in (
+      c.length.ensures.1,
+      widened_room a.width.log2 a.height.log2 a.width.in_range.1 a.height.in_range.1 a.block.now c.requires.block_len.0 c.requires.by_index c.widen.new.wide
           (omega arith) c.widen.ensures,
     )
 
 pub half_stage-requires : goal.half_stage-requires
 half_stage-requires c =
     let a = c.args in
-    let p = c.requires.le_lw in
     let lr = c.requires.block_len.0 in
     let stage = (goal.at.half_stage-requires c).After-stage in
-    let t = c.if-lw-lh-eq10.true in (
-      largest _ a.lw a.lh (omega arith) t,
-      largest _ a.lw a.lh (omega arith) t,
+    let t = c.if-width-height-eq10.true in (
+      largest _ a.width.log2 a.height.log2 (omega arith) t,
+      largest _ a.width.log2 a.height.log2 (omega arith) t,
       λ i g.
           omega (
             arith,
-            first_within a.lw a.lh p.1 p.3 a.block.now lr c.requires.by_index c.stage.new.dst (first stage) i
-                (omega (arith, largest _ a.lw a.lh lr t, lr)),
-            pow_mono {i = a.lw} {j = 5} p.1,
+            first_within a.width.log2 a.height.log2 a.width.in_range.1 a.height.in_range.1 a.block.now lr c.requires.by_index c.stage.new.dst (first stage) i
+                (omega (arith, largest _ a.width.log2 a.height.log2 lr t, lr)),
+            pow_mono {i = a.width.log2} {j = 5} a.width.in_range.1,
           ),
     )
 
 pub settle-requires-clause-by_index : goal.settle-requires-clause-by_index
 settle-requires-clause-by_index c =
     let a = c.args in
-    let p = c.requires.le_lw in
     let b = c.stage.new.dst in
-    let t = c.if-lw-lh-eq10.true in
-    λ i q. settle_within a.lw a.lh p.1 p.3 a.block.now c.requires.block_len.0 c.requires.by_index b
+    let t = c.if-width-height-eq10.true in
+    λ i q. settle_within a.width.log2 a.height.log2 a.width.in_range.1 a.height.in_range.1 a.block.now c.requires.block_len.0 c.requires.by_index b
     (first (goal.at.settle-requires-clause-by_index c).After-stage) half c.half_stage.new.dst
-    (halves a.lw a.lh p.1 p.3 t b c.half_stage.new.dst c.half_stage.ensures) 16 (half_same a.lw a.lh t)
-    (half_less a.lw a.lh t) i (omega arith)
+    (halves a.width.log2 a.height.log2 a.width.in_range.1 a.height.in_range.1 t b c.half_stage.new.dst c.half_stage.ensures) 16 (half_same a.width.log2 a.height.log2 t)
+    (half_less a.width.log2 a.height.log2 t) i (omega arith)
 
-pub returns-then-lw-lh-eq10 : goal.returns-then-lw-lh-eq10
-returns-then-lw-lh-eq10 c =
+pub returns-then-width-height-eq10 : goal.returns-then-width-height-eq10
+returns-then-width-height-eq10 c =
     let a = c.args in
-    let p = c.requires.le_lw in
     let b = c.stage.new.dst in
-    let t = c.if-lw-lh-eq10.true in
-    settled a.lw a.lh p.1 p.3 a.block.now c.requires.block_len.0 c.requires.by_index b
-    (first (goal.at.returns-then-lw-lh-eq10 c).After-stage) half c.half_stage.new.dst
-    (halves a.lw a.lh p.1 p.3 t b c.half_stage.new.dst c.half_stage.ensures) 16 (half_same a.lw a.lh t)
-    (half_less a.lw a.lh t) c.settle.new.block (omega arith) (λ i q. c.settle.ensures i (omega arith))
+    let t = c.if-width-height-eq10.true in
+    settled a.width.log2 a.height.log2 a.width.in_range.1 a.height.in_range.1 a.block.now c.requires.block_len.0 c.requires.by_index b
+    (first (goal.at.returns-then-width-height-eq10 c).After-stage) half c.half_stage.new.dst
+    (halves a.width.log2 a.height.log2 a.width.in_range.1 a.height.in_range.1 t b c.half_stage.new.dst c.half_stage.ensures) 16 (half_same a.width.log2 a.height.log2 t)
+    (half_less a.width.log2 a.height.log2 t) c.settle.new.block (omega arith) (λ i q. c.settle.ensures i (omega arith))
 
-pub stage-requires-else-lw-lh-eq10-clause-le_log2 : goal.stage-requires-else-lw-lh-eq10-clause-le_log2
-stage-requires-else-lw-lh-eq10-clause-le_log2 c =
-    let a = c.args in
-    let p = c.requires.le_lw in (
-      p.2,
-      p.3,
-      c.side-w.ensures.1,
-      second_room a.lw a.lh p.1 p.3 a.block.now c.requires.block_len.0 c.requires.by_index c.stage.new.dst
-          (first (goal.at.stage-requires-else-lw-lh-eq10-clause-le_log2 c).After-stage) (omega arith) (omega arith),
+pub stage-requires-else-width-height-eq10-clause-room : goal.stage-requires-else-width-height-eq10-clause-room
+stage-requires-else-width-height-eq10-clause-room c =
+    let a = c.args in (
+      c.length-else-width-height-eq10.ensures.1,
+      second_room a.width.log2 a.height.log2 a.width.in_range.1 a.height.in_range.1 a.block.now c.requires.block_len.0 c.requires.by_index c.stage.new.dst
+          (first (goal.at.stage-requires-else-width-height-eq10-clause-room c).After-stage) (omega arith) (omega arith),
     )
 
-pub settle-requires-else-lw-lh-eq10-clause-by_index : goal.settle-requires-else-lw-lh-eq10-clause-by_index
-settle-requires-else-lw-lh-eq10-clause-by_index c =
+pub settle-requires-else-width-height-eq10-clause-by_index : goal.settle-requires-else-width-height-eq10-clause-by_index
+settle-requires-else-width-height-eq10-clause-by_index c =
     let a = c.args in
-    let p = c.requires.le_lw in
     let b = c.stage.new.dst in
-    let sums = c.stage-else-lw-lh-eq10.new.dst in
-    λ i q. settle_within a.lw a.lh p.1 p.3 a.block.now c.requires.block_len.0 c.requires.by_index b
-    (first (goal.at.settle-requires-else-lw-lh-eq10-clause-by_index c).After-stage) (λ z. z) sums
-    (seconds a.lh a.lw c.side-w.result b sums c.side-w.ensures.0 c.stage-else-lw-lh-eq10.ensures)
-    (7 + a.lw + a.lh) (λ z. refl) (λ z k. k) i (omega arith)
+    let sums = c.stage-else-width-height-eq10.new.dst in
+    λ i q. settle_within a.width.log2 a.height.log2 a.width.in_range.1 a.height.in_range.1 a.block.now c.requires.block_len.0 c.requires.by_index b
+    (first (goal.at.settle-requires-else-width-height-eq10-clause-by_index c).After-stage) (λ z. z) sums
+    (seconds a.height.log2 a.width.log2 c.length-else-width-height-eq10.result b sums c.length-else-width-height-eq10.ensures.0 c.stage-else-width-height-eq10.ensures)
+    (7 + a.width.log2 + a.height.log2) (λ z. refl) (λ z k. k) i (omega arith)
 
-pub returns-else-lw-lh-eq10 : goal.returns-else-lw-lh-eq10
-returns-else-lw-lh-eq10 c =
+pub returns-else-width-height-eq10 : goal.returns-else-width-height-eq10
+returns-else-width-height-eq10 c =
     let a = c.args in
-    let p = c.requires.le_lw in
     let b = c.stage.new.dst in
-    let sums = c.stage-else-lw-lh-eq10.new.dst in
-    settled a.lw a.lh p.1 p.3 a.block.now c.requires.block_len.0 c.requires.by_index b
-    (first (goal.at.returns-else-lw-lh-eq10 c).After-stage) (λ z. z) sums
-    (seconds a.lh a.lw c.side-w.result b sums c.side-w.ensures.0 c.stage-else-lw-lh-eq10.ensures)
-    (7 + a.lw + a.lh) (λ z. refl) (λ z k. k) c.settle-else-lw-lh-eq10.new.block (omega arith)
-    (λ i q. c.settle-else-lw-lh-eq10.ensures i (omega arith))
+    let sums = c.stage-else-width-height-eq10.new.dst in
+    settled a.width.log2 a.height.log2 a.width.in_range.1 a.height.in_range.1 a.block.now c.requires.block_len.0 c.requires.by_index b
+    (first (goal.at.returns-else-width-height-eq10 c).After-stage) (λ z. z) sums
+    (seconds a.height.log2 a.width.log2 c.length-else-width-height-eq10.result b sums c.length-else-width-height-eq10.ensures.0 c.stage-else-width-height-eq10.ensures)
+    (7 + a.width.log2 + a.height.log2) (λ z. refl) (λ z k. k) c.settle-else-width-height-eq10.new.block (omega arith)
+    (λ i q. c.settle-else-width-height-eq10.ensures i (omega arith))
