@@ -1,3 +1,4 @@
+pub mod Magnitudes
 pub mod Lowest
 pub mod Reaching
 pub mod Parts

@@ -3,16 +3,16 @@ use mathlib.Core.Path.{◌≡◌, refl, sym, ap, ◌∙◌}
 use Prim.Native.Nat.{ℕ, ◌+◌}
 use native.Mathlib.Omega.{arith}
 use lib.ListN.{length-set, get_or}
-use lib.IntN.{pos, nat_abs}
+use lib.IntN.{pos}
 use mir.Syntax.{w16}
 use mir.Val.{SFits}
-use mir.Facts.{to_z-of_z}
 use borrow.Author.Rules.{rules}
 use Rattle.integers.specs.Sum.{at}
 use Rattle.integers.proofs.Fill.{filled_more}
 use Rattle.price.specs.Price.{nonzeros}
 use Rattle.signs.specs.Inner.Signs.{kept_of}
 use Rattle.price.proofs.Counting.{ones, one_more, none_more, ones_few, nonzeros_filled}
+use Rattle.coefficients.proofs.Magnitudes.{magnitude_is}
 use Rattle.signs.proofs.Keeping.{kept_yes, kept_no}
 use Rattle.signs.proofs.keep.Goals.{then-scale-a, else-scale-a, then-v-ne0, else-v-ne0}
 use Rattle.signs.proofs.keep.Goals as goal
@@ -28,8 +28,7 @@ loop-i-preserved c =
     let l = c.loop-i in
     let z = get_or block l.i (pos 0) in
     let f : SFits w16 z = search rules in
-    let m : c.unsigned_abs-a.result ≡ nat_abs z =
-    c.unsigned_abs-a.ensures.value ∙ ap nat_abs (to_z-of_z {w = w16} {z = z} f) in
+    let m = magnitude_is z _ f c.unsigned_abs-a.ensures.value in
     let v = c.if-scale-a.v in
     let is : v ≡ kept_of g z = elim c.if-scale-a.branch [
       | then-scale-a w ↦ kept_yes g z _ _ m w.if-scale-a.true w.v-is

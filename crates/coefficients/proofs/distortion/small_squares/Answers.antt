@@ -8,7 +8,6 @@ use lib.ListN.{length, get_or, drop}
 use lib.IntN.{ℤ, pos, nat_abs}
 use mir.Syntax.{w16}
 use mir.Val.{SFits, to_z, of_z}
-use mir.Facts.{to_z-of_z}
 use borrow.Author.Rules.{rules}
 use Rattle.integers.specs.Sum.{over, on_ℕ}
 use Rattle.integers.proofs.Sums.{nats}
@@ -16,9 +15,11 @@ use Rattle.integers.proofs.Over.{over_next, over_end}
 use Rattle.price.specs.Level.{square}
 use Rattle.scaling.specs.declared.scale.Scale.{Scale}
 use Rattle.coefficients.specs.Inner.Coefficients.{Within, energy, zero_distortion}
+use Rattle.coefficients.proofs.Magnitudes.{magnitude_is}
 use Rattle.coefficients.proofs.Uncoding.{zero_distortion_lem}
 use Rattle.coefficients.proofs.Small.{rounded_up, crossed, up_square, error_square, crossed_within}
 use Rattle.coefficients.proofs.Small.{up_within, by_three_sums}
+use Rattle.coefficients.proofs.distortion.small_squares.Goals.{After-from-a}
 use Rattle.coefficients.proofs.distortion.small_squares.Goals as goal
 
 -- ---- the sums with one more: what `unsigned_abs` answers of a coefficient, in 15 bits, is its magnitude
@@ -27,8 +28,7 @@ module _ (B : List ℤ) (within : Within B 32767) (i : ℕ) (lt : i < length B)
   magnitude : (got : ℕ) → got ≡ nat_abs (to_z w16 (of_z w16 (get_or B i (pos 0))))
       → got % 32768 ≡ nat_abs (get_or B i (pos 0))
   magnitude got e =
-      let k : got ≡ nat_abs (get_or B i (pos 0)) = e ∙ ap nat_abs (to_z-of_z {w = w16} {z = get_or B i (pos 0)} fits) in
-      omega (arith, within i)
+      omega (arith, within i, magnitude_is (get_or B i (pos 0)) got fits e)
 
   -- a sum of what h makes of the magnitudes
   one_more : (h : ℕ → ℕ) (sum got : ℕ) → got ≡ nat_abs (to_z w16 (of_z w16 (get_or B i (pos 0))))
@@ -71,46 +71,38 @@ module _ (g : Scale) (B : List ℤ) (i : ℕ) (end : length B ≤ i) where
       ∙ ap (λ (n : ℕ). g.front * g.front * aa + n) (sym (whole (up_square r) yy eu))
 
 -- ---- the goals
-pub overflow_add-aa : goal.overflow_add-aa
-overflow_add-aa c =
+-- a sum of what h makes of the magnitudes, with the coefficient of this turn
+next : (c : After-from-a) (h : ℕ → ℕ) (sum : ℕ)
+    → (let B = c.args.block.now in let i = c.loop-c.c-index in
+    sum + over on_ℕ (λ z. h (nat_abs z)) (drop i B) ≡ over on_ℕ (λ z. h (nat_abs z)) B
+    → sum + h (c.from-a.result % 32768) + over on_ℕ (λ z. h (nat_abs z)) (drop (i + 1) B)
+    ≡ over on_ℕ (λ z. h (nat_abs z)) B)
+next c h sum =
     let B = c.args.block.now in
-    let l = c.loop-c in
-    let f : SFits w16 (get_or B l.c-index (pos 0)) = search rules in
-    let more = one_more B c.requires.0 l.c-index c.loop-c-test.true f square l.aa _
-    (c.from-a.ensures ∙ c.unsigned_abs.ensures.value) l.invariant.0 in
-    record { fits = omega (arith, more, c.requires.1) }
+    let f : SFits w16 (get_or B c.loop-c.c-index (pos 0)) = search rules in
+    one_more B c.requires.0 c.loop-c.c-index c.loop-c-test.true f h sum _ (c.from-a.ensures ∙ c.unsigned_abs.ensures.value)
 
 pub overflow_add-ay : goal.overflow_add-ay
 overflow_add-ay c =
-    let B = c.args.block.now in
     let l = c.loop-c in
     let r = c.args.scale.rest % 32768 in
-    let f : SFits w16 (get_or B l.c-index (pos 0)) = search rules in
-    let more = one_more B c.requires.0 l.c-index c.loop-c-test.true f (λ a. a * rounded_up r a) l.ay _
-    (c.from-a.ensures ∙ c.unsigned_abs.ensures.value) l.invariant.1 in
-    record { fits = omega (arith, more, crossed_within r (omega arith) B, c.requires.1) }
+    let more = next c (λ a. a * rounded_up r a) l.ay l.invariant.1 in
+    record { fits = omega (arith, more, crossed_within r (omega arith) c.args.block.now, c.requires.1) }
 
 pub overflow_add-yy : goal.overflow_add-yy
 overflow_add-yy c =
-    let B = c.args.block.now in
     let l = c.loop-c in
     let r = c.args.scale.rest % 32768 in
-    let f : SFits w16 (get_or B l.c-index (pos 0)) = search rules in
-    let more = one_more B c.requires.0 l.c-index c.loop-c-test.true f (λ a. square (rounded_up r a)) l.yy _
-    (c.from-a.ensures ∙ c.unsigned_abs.ensures.value) l.invariant.2 in
-    record { fits = omega (arith, more, up_within r (omega arith) B, c.requires.1) }
+    let more = next c (λ a. square (rounded_up r a)) l.yy l.invariant.2 in
+    record { fits = omega (arith, more, up_within r (omega arith) c.args.block.now, c.requires.1) }
 
 pub loop-c-preserved : goal.loop-c-preserved
 loop-c-preserved c =
-    let B = c.args.block.now in
     let l = c.loop-c in
-    let r = c.args.scale.rest % 32768 in
-    let f : SFits w16 (get_or B l.c-index (pos 0)) = search rules in
-    let next = one_more B c.requires.0 l.c-index c.loop-c-test.true f in
-    let e = c.from-a.ensures ∙ c.unsigned_abs.ensures.value in (
-      next square l.aa _ e l.invariant.0,
-      next (λ a. a * rounded_up r a) l.ay _ e l.invariant.1,
-      next (λ a. square (rounded_up r a)) l.yy _ e l.invariant.2,
+    let r = c.args.scale.rest % 32768 in (
+      next c square l.aa l.invariant.0,
+      next c (λ a. a * rounded_up r a) l.ay l.invariant.1,
+      next c (λ a. square (rounded_up r a)) l.yy l.invariant.2,
     )
 
 pub overflow_sub-result : goal.overflow_sub-result

@@ -6,13 +6,13 @@ use lib.ListN.{length}
 use lib.IntN.{pos, nat_abs}
 use mir.Syntax.{w16}
 use mir.Val.{SFits}
-use mir.Facts.{to_z-of_z}
 use borrow.Author.Rules.{rules}
 use Rattle.integers.specs.Sum.{at}
 use Rattle.integers.proofs.Sums.{nats}
 use Rattle.integers.proofs.Over.{over_next, over_end}
 use Rattle.price.specs.Level.{square}
 use Rattle.coefficients.specs.Inner.Coefficients.{zero_distortion}
+use Rattle.coefficients.proofs.Magnitudes.{magnitude_is}
 use Rattle.coefficients.proofs.Uncoding.{zero_error, most_square, parts, squares_next, squares_fit}
 use Rattle.coefficients.proofs.Uncoding.{zero_distortion_lem}
 use Rattle.coefficients.proofs.distortion.squares.Goals.{After-from-x}
@@ -24,7 +24,7 @@ error_is : (c : After-from-x)
 error_is c =
     let z = at c.args.part.now c.loop-c.c-index in
     let f : SFits w16 z = search rules in
-    let a = c.unsigned_abs.ensures.value ∙ ap nat_abs (to_z-of_z {w = w16} {z = z} f) in
+    let a = magnitude_is z _ f c.unsigned_abs.ensures.value in
     c.from-x.ensures ∙ ap (zero_error c.args.scale) (c.from-a.ensures ∙ a)
 
 square_at_most : (c : After-from-x) → c.from-x.result * c.from-x.result ≤ most_square c.args.scale

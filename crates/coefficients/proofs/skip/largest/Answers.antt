@@ -8,10 +8,10 @@ use lib.IntN.{pos, nat_abs}
 use Rattle.std.proofs.Common.{below_more}
 use mir.Syntax.{w16}
 use mir.Val.{SFits}
-use mir.Facts.{to_z-of_z}
 use borrow.Author.Rules.{rules}
 use Rattle.integers.specs.Sum.{over, on_max}
 use Rattle.integers.proofs.Over.{maxima, over_next, over_end}
+use Rattle.coefficients.proofs.Magnitudes.{magnitude_is}
 use Rattle.coefficients.proofs.Lowest.{Fitting, at_most_lowest, lowest_is}
 use Rattle.coefficients.proofs.skip.largest.Goals as goal
 
@@ -21,8 +21,7 @@ loop-c-preserved c =
     let B = c.args.part.now in
     let z = get_or B l.c-index (pos 0) in
     let f : SFits w16 z = search rules in
-    let a : c.unsigned_abs.result ≡ nat_abs z =
-    c.unsigned_abs.ensures.value ∙ ap nat_abs (to_z-of_z {w = w16} {z = z} f) in
+    let a = magnitude_is z _ f c.unsigned_abs.ensures.value in
     let more = over_next maxima nat_abs B l.c-index (pos 0) l.top c.loop-c-test.true ∙ l.invariant.0 in
     (rw (c.max-top.ensures, a) more, below_more _ _ l.invariant.1 f)
 
