@@ -1,7 +1,7 @@
 -- What refusals 6 to 9 leave: coefficients of at most 32767, magnitudes of at most 32767 that cost at most 2^61, and a
 -- D of at most 2^60. By these the walk's totals stay below 2^62, and so does the price. And what the skip leaves: small
--- coefficients. Assumes nothing.
-use mathlib.Core.Path.{◌≡◌, sym, ap, ◌∙◌}
+-- coefficients.
+use mathlib.Core.Path.{◌≡◌, sym, ◌∙◌}
 use mathlib.Core.Logic.{⊎_elim}
 use mathlib.Core.List.{List}
 use Prim.Native.Nat.{ℕ, suc, ◌+◌, ◌-◌, ◌*◌, ◌/◌, ◌^◌, ◌≤◌, ◌<◌}
@@ -16,34 +16,33 @@ use Rattle.price.specs.declared.Costs.{Costs}
 use Rattle.price.specs.Costs.{InRange, Rows, entry}
 use Rattle.scaling.specs.declared.scale.Scale.{Scale}
 use Rattle.weights.specs.declared.prices.Prices.{Prices}
-use Rattle.scaling.specs.Inner.Scale.{Sound}
 use Rattle.weights.specs.Inner.Prices.{Fine}
-use Rattle.contexts.specs.Inner.Reading.{prices_of}
+use Rattle.contexts.specs.Inner.Reading.{PricesOf}
 use Rattle.coefficients.specs.Inner.Coefficients.{Held, Within}
 use Rattle.coefficients.proofs.Reaching.{nearest_grows, within_largest}
 
 -- one step of a level costs at most lambda·2^20
-pub each_small : (sign lambda : ℕ) (t : Costs) (rows : Rows) (p : Prices) → InRange t → p ≡ prices_of sign lambda t rows
+pub each_small : (sign lambda : ℕ) (t : Costs) (rows : Rows) (p : Prices) → InRange t → PricesOf sign lambda t rows p
     → p.each ≤ lambda * 1048576
-unfolding prices_of entry
+unfolding entry
 each_small sign lambda t rows p h e =
-    omega (arith, ap (λ (x : Prices). x.each) e, mul-le-mul_left lambda (h.level (2 * (rows.level + 1) + 1)))
+    omega (arith, e.each, mul-le-mul_left lambda (h.level (2 * (rows.level + 1) + 1)))
 
 module _ (B : List ℤ) (top : ℕ) (e : top ≡ over on_max nat_abs B) (few : top ≤ 32767) where
   pub all_few : Within B 32767
   all_few k = omega (arith, within_largest B k)
 
-  pub all_fine : (g : Scale) → Sound g → (p : Prices) (lambda m : ℕ) → m ≡ nearest g.shift (top * g.q) → m ≤ 32767
+  pub all_fine : (g : Scale) (p : Prices) (lambda m : ℕ) → m ≡ nearest g.shift (top * g.q) → m ≤ 32767
       → lambda * suc m ≤ 2 ^ 41
       → p.each ≤ lambda * 1048576 → (k : ℕ) → Fine p g (scaled g.q (at B k))
   unfolding scaled
-  all_fine g s p lambda m em hm hp he k =
+  all_fine g p lambda m em hm hp he k =
       let a = nat_abs (at B k) in
       let le : a ≤ top = omega (arith, within_largest B k) in
       let grown : nearest g.shift (a * g.q) ≤ m =
       omega (arith, nearest_grows g.shift (a * g.q) (top * g.q) (mul-le-mul_right g.q le)) in
       let wide : g.q * g.error ≤ 16384 * 2 ^ 20 =
-      omega (arith, s.exact, mul-le-mul_right (2 ^ 20) s.wide_front) in
+      omega (arith, g.sound.exact, mul-le-mul_right (2 ^ 20) g.sound.wide_front) in
       let near : a * (g.q * g.error) ≤ 32767 * (16384 * 2 ^ 20) = mul-le-mul (all_few k) wide in
       let dear : nearest g.shift (a * g.q) * p.each ≤ m * (lambda * 1048576) = mul-le-mul grown he in
       let split : m * (lambda * 1048576) ≡ lambda * m * 1048576 = mul_left_comm m lambda 1048576

@@ -1,5 +1,5 @@
 -- What the definition answers of document 01's call, as code finds it: the faults one by one, and skip, M, D and the
--- rule by the numbers that code works out from the block by rows. Assumes nothing.
+-- rule by the numbers that code works out from the block by rows.
 use mathlib.Core.Path.{◌≡◌, refl, sym, ap, subst, fun_ext, ◌∙◌}
 use mathlib.Core.Bool.{Bool, true, false, not, ◌||◌}
 use mathlib.Core.List.{List, [], ◌∷◌, map}
@@ -46,8 +46,8 @@ use Rattle.coding.specs.Call.{side_fault, qp_fault, lambda_fault, cost_fault, le
 use Rattle.coding.specs.Call.{level_fault, price_fault, uncoded_here, distortion_fault, quant_faults, quant_verdict}
 use Rattle.coding.specs.Call.{coded, quant_answer, quant_buffer}
 use Rattle.scaling.specs.Inner.Scale.{ScaleOf}
-use Rattle.weights.specs.Inner.Prices.{rule_by}
-use Rattle.contexts.specs.Inner.Reading.{prices_of}
+use Rattle.weights.specs.Inner.Prices.{rule_by, rate_by}
+use Rattle.contexts.specs.Inner.Reading.{PricesOf}
 use Rattle.quantise.specs.Inner.Early.{EarlyPassed}
 use Rattle.coefficients.specs.Inner.Coefficients.{zero_distortion}
 use Rattle.levels.specs.Inner.Levels.{places_by, CodedAs}
@@ -80,16 +80,16 @@ largest_over m [] = refl
 largest_over m (p ∷ ps) = ap (max (m p)) (largest_over m ps)
 
 -- a rule by its numbers
-made : ℕ → ℕ → (Bool → ℕ → ℕ) → Prices → Rule
-made b e rate p =
+made : (shift error : ℕ) → (Bool → ℕ → ℕ) → (coded empty more last : ℕ) → Rule
+made shift error rate coded empty more last =
     record {
-      top = nearest b;
-      dist = distortion b e;
+      top = nearest shift;
+      dist = distortion shift error;
       rate = rate;
-      coded = p.coded;
-      empty = p.empty;
-      more = p.more;
-      last = p.last;
+      coded = coded;
+      empty = empty;
+      more = more;
+      last = last;
     }
 
 module _ (B : List ℤ) (t : Costs) (a : Coding) where
@@ -287,45 +287,50 @@ module _ (B : List ℤ) (t : Costs) (a : Coding) where
           ∙ largest_over m (places_by g side side B)
           ∙ over_map on_max m (λ z. scaled g.q z) (in_order side side B)
           ∙ in_block maxima (λ z. m (scaled g.q z))
-          ∙ largest_is g.shift g.q (omega (arith, w.sound.low)) B
+          ∙ largest_is g.shift g.q (omega (arith, g.sound.low)) B
           ∙ ap (λ (n : ℕ). m (n * g.q)) (sym e)
 
-      -- the rule
-      pub rule_here : (p : Prices) → p ≡ prices_of 32768 (lambda_here call) t rows → rule_of call ≡ rule_by p g
-      unfolding rule_of rule_by rows_here log2_of scale_here called made prices_of
-      rule_here p e =
-          let lambda = lambda_here call in
-          let v = prices_of 32768 lambda t rows in
-          let rate_of : Bool → ℕ → ℕ = λ z a. lambda * rate 32768 t rows z a in
-          let error_here : error_scale ((l + l) / 2) (scale_of forward s.qp) ≡ g.error =
-          ap (λ (n : ℕ). error_scale n (scale_of forward s.qp)) half_sum ∙ ap (error_scale l) (sym w.q)
-          ∙ sym w.error in
-          ap (λ (n : ℕ). made n (error_scale ((l + l) / 2) (scale_of forward s.qp)) rate_of v) shift_here_lem
-          ∙ ap (λ (n : ℕ). made g.shift n rate_of v) error_here
-          ∙ ap (λ (f : Bool → ℕ → ℕ). made g.shift g.error f v)
-          (fun_ext (λ z. fun_ext (λ a. sym (rate_weighed 32768 lambda t rows z a))))
-          ∙ ap (λ (x : Prices). rule_by x g) (sym e)
+      error_here : error_scale ((l + l) / 2) (scale_of forward s.qp) ≡ g.error
+      error_here =
+          ap (λ (n : ℕ). error_scale n (scale_of forward s.qp)) half_sum ∙ ap (error_scale l) (sym w.q) ∙ sym w.error
 
       -- D
-      uncoded_by : (p : Prices) → uncoded (rule_by p g) (places_by g side side B) ≡ over on_ℕ (zero_distortion g) B
-      unfolding rule_by
-      uncoded_by p =
-          uncoded_over (rule_by p g) (places_by g side side B)
-          ∙ over_map on_ℕ (λ L. (rule_by p g).dist L 0) (λ z. scaled g.q z) (in_order side side B)
-          ∙ in_block nats (λ z. (rule_by p g).dist (scaled g.q z) 0)
-
-      pub uncoded_is : (p : Prices) → p ≡ prices_of 32768 (lambda_here call) t rows
-          → uncoded_here call ≡ uncoded (rule_by p g) (places_by g side side B)
-      unfolding uncoded_here
-      uncoded_is p e =
-          ap (λ (r : Rule). uncoded r (places call)) (rule_here p e) ∙ ap (uncoded (rule_by p g)) places_here
+      dist_here : (L : ℕ) → (rule_of call).dist L 0 ≡ distortion g.shift g.error L 0
+      unfolding rule_of log2_of scale_here called
+      dist_here L = rw (shift_here_lem, error_here)
 
       pub uncoded_here_lem : uncoded_here call ≡ over on_ℕ (zero_distortion g) B
-      uncoded_here_lem = let p = prices_of 32768 (lambda_here call) t rows in uncoded_is p refl ∙ uncoded_by p
+      unfolding uncoded_here
+      uncoded_here_lem =
+          uncoded_over (rule_of call) (places call)
+          ∙ ap (λ (f : ℕ → ℕ). over on_ℕ f (places call)) (fun_ext dist_here)
+          ∙ ap (over on_ℕ (λ L. distortion g.shift g.error L 0)) places_here
+          ∙ over_map on_ℕ (λ L. distortion g.shift g.error L 0) (λ z. scaled g.q z) (in_order side side B)
+          ∙ in_block nats (zero_distortion g)
+
+      -- the rule
+      module _ (p : Prices) (e : PricesOf 32768 (lambda_here call) t rows p) where
+        pub rule_here : rule_of call ≡ rule_by p g
+        unfolding rule_of rule_by rows_here log2_of scale_here called made
+        rule_here =
+            let rate_here : (z : Bool) (a : ℕ) → lambda_here call * rate 32768 t rows z a ≡ rate_by p z a =
+            λ z a. sym (rate_weighed 32768 (lambda_here call) t rows p e z a) in
+            let f = made g.shift g.error in
+            ap (λ (n : ℕ). made n (error_scale ((l + l) / 2) (scale_of forward s.qp))
+            (λ z a. lambda_here call * rate 32768 t rows z a)
+            (lambda_here call * entry t.cbf rows.cbf 1) (lambda_here call * entry t.cbf rows.cbf 0)
+            (lambda_here call * entry t.last rows.last 0) (lambda_here call * entry t.last rows.last 1)) shift_here_lem
+            ∙ rw (error_here, ← e.coded, ← e.empty, ← e.more, ← e.last)
+            (ap (λ (r : Bool → ℕ → ℕ). f r p.coded p.empty p.more p.last) (fun_ext (λ z. fun_ext (rate_here z))))
+
+        pub uncoded_is : uncoded_here call ≡ uncoded (rule_by p g) (places_by g side side B)
+        unfolding uncoded_here
+        uncoded_is =
+            ap (λ (r : Rule). uncoded r (places call)) rule_here ∙ ap (uncoded (rule_by p g)) places_here
 
       -- ---- a block without a fault
       module _ (no : is_skipped call ≡ false) (no_fault : None call late)
-          (p : Prices) (e : p ≡ prices_of 32768 (lambda_here call) t rows) where
+          (p : Prices) (e : PricesOf 32768 (lambda_here call) t rows p) where
         mode_here : call.mode ≡ a.mode
         unfolding called
         mode_here = refl

@@ -1,2 +1,4 @@
 pub mod Answer
 pub mod Accepting
+pub mod Found
+pub mod Refusing

@@ -6,26 +6,39 @@ ghost use Rattle.std.specs.Prelude.{◌≡◌, length, replicate, pos};
 ghost use Rattle.price.specs.Costs.{costs_of};
 ghost use Rattle.coding.specs.Block.{called};
 ghost use Rattle.coding.specs.Call.{quant_outcome, quant_answer, quant_buffer};
-ghost use Rattle.quantise.specs.Inner.Early.{EarlyPassed};
+ghost use Rattle.quantise.specs.Inner.Early.{EarlyPassed, outcome_in};
 ghost use Rattle.quantise.specs.Inner.Skip.{Skippable, SkippedAs};
 
 use coding::{Coded, Coding};
 use coefficients::distortion::{small_squares, uncoded};
-use coefficients::skip::{clear, largest, reaching};
-use contexts::{contexts_of, empty_price, prices_of};
+use coefficients::skip::{largest, skipped_top};
+use contexts::Contexts;
 use price::{costs_of, costs_refused, lambda_refused, lambda_whole};
-use refusals::{Refusal, Refused, no_side};
+use refusals::{Refusal, Refused, no_side, side};
 use rooms::code_levels;
-use scaling::scale::{Scale, rounded, scale_of, skip_threshold};
+use scaling::scale::{Scale, skip_threshold};
+use weights::Weights;
+
+// 2 QP: no QP is larger.
+const MOST_QP: u32 = 63;
+
+// 6 SAMPLE: of the coefficient -32768, which no level can have.
+const LOWEST: u32 = 32768;
 
 // 7 LEVEL: no level is larger.
 const MOST_LEVEL: u64 = 32767;
 
+// 8 PRICE: lambda·(M + 1) is at most 2^41.
+const MOST_WEIGHT: u64 = 2199023255552;
+
+// 9 DISTORTION: D is at most 2^60.
+const MOST_DISTORTION: u64 = 1152921504606846976;
+
 // A block that the quick skip clears costs what an empty block costs: D and its flag. Where every coefficient is 0
 // already, there is nothing to clear, and D is 0.
-fn skip_block(block: &mut [i16], g: Scale, top: u32, empty: u64) -> Coded
-    requires { Skippable g block.old top empty }
-    ensures answer { SkippedAs g block.old empty result }
+fn skip_block(block: &mut [i16], scale: Scale, top: u32, empty: u64) -> Coded
+    requires { Skippable scale block.old top empty }
+    ensures answer { SkippedAs scale block.old empty result }
     ensures buffer { block.new ≡ replicate (length block.old) (pos 0) }
 {
     if top == 0 {
@@ -34,79 +47,61 @@ fn skip_block(block: &mut [i16], g: Scale, top: u32, empty: u64) -> Coded
             price: empty,
         };
     }
-    let d = small_squares(block, g);
-    clear(block);
+    let d = small_squares(block, scale);
+    block.fill(0);
     Coded {
         count: 0,
         price: d + empty,
     }
 }
 
-// A block that has its own part of the buffer, where refusals 1 to 5 are past. A coefficient of -32768 is never
-// skipped.
-fn code_block(block: &mut [i16], costs: &[u64; 28], coding: Coding) -> Result<Coded, Refused>
+// A block that has its own part of the buffer, where refusals 1 to 5 are past: those that are left belong to its
+// component. A coefficient of -32768 is never skipped.
+fn code_block(block: &mut [i16], costs: &[u64; 28], coding: Coding) -> Result<Coded, Refusal>
     requires { EarlyPassed block.old (costs_of costs.now) coding }
-    ensures answer { quant_outcome result
-        ≡ quant_answer (called block.old (costs_of costs.now) coding) }
-    ensures buffer { block.new
-        ≡ quant_buffer (called block.old (costs_of costs.now) coding) }
+    ensures answer { outcome_in coding.component result ≡ quant_answer (called block.old (costs_of costs.now) coding) }
+    ensures buffer { block.new ≡ quant_buffer (called block.old (costs_of costs.now) coding) }
 {
-    let component = coding.component;
     let settings = coding.settings;
-    let g = scale_of(coding.log2, settings.qp);
+    let scale = Scale::of(coding.log2, settings.qp);
     let lambda = lambda_whole(settings.lambda);
-    let at = contexts_of(component, coding.intra_coded);
+    let at = Contexts::of(coding.component, coding.intra_coded);
     let threshold = skip_threshold(coding.log2, settings.qp, coding.intra_slice);
-    let found = reaching(block, g.q, threshold);
-    if !found.walked {
-        let empty = empty_price(costs, at, lambda);
-        return Ok(skip_block(block, g, found.top, empty));
+    if let Some(top) = skipped_top(block, scale.q, threshold) {
+        let empty = at.empty_price(costs, lambda);
+        return Ok(skip_block(block, scale, top, empty));
     }
     let top = largest(block);
-    if top == 32768 {
-        return Err(Refused {
-            why: Refusal::Sample,
-            component,
-        });
+    if top == LOWEST {
+        return Err(Refusal::Sample);
     }
-    let m = rounded(g, top);
+    let m = scale.rounded(top);
     if MOST_LEVEL < m {
-        return Err(Refused {
-            why: Refusal::Level,
-            component,
-        });
+        return Err(Refusal::Level);
     }
-    if 2199023255552 < lambda * (m + 1) {
-        return Err(Refused {
-            why: Refusal::Price,
-            component,
-        });
+    if MOST_WEIGHT < lambda.number * (m + 1) {
+        return Err(Refusal::Price);
     }
-    let d = uncoded(block, g);
-    if 1152921504606846976 < d {
-        return Err(Refused {
-            why: Refusal::Distortion,
-            component,
-        });
+    let d = uncoded(block, scale);
+    if MOST_DISTORTION < d {
+        return Err(Refusal::Distortion);
     }
-    let p = prices_of(costs_of(costs), at, lambda);
-    let mode = coding.mode;
-    Ok(code_levels(block, coding.log2, p, g, d, mode))
+    let prices = at.prices(costs_of(costs), lambda);
+    let weights = Weights { prices, scale };
+    Ok(code_levels(block, coding.log2, weights, d, coding.mode))
 }
 
 // evce_quant_nnz for a square block: the levels in place of the coefficients, their count and their price.
 pub fn quant_nnz(block: &mut [i16], costs: &[u64; 28], coding: Coding) -> Result<Coded, Refused>
-    ensures answer { quant_outcome result
-        ≡ quant_answer (called block.old (costs_of costs.now) coding) }
-    ensures buffer { block.new
-        ≡ quant_buffer (called block.old (costs_of costs.now) coding) }
+    ensures answer { quant_outcome result ≡ quant_answer (called block.old (costs_of costs.now) coding) }
+    ensures buffer { block.new ≡ quant_buffer (called block.old (costs_of costs.now) coding) }
 {
+    let component = coding.component;
+    let settings = coding.settings;
     if no_side(coding.log2) {
         return Err(Refusal::Side.into());
     }
-    let component = coding.component;
-    let settings = coding.settings;
-    if 63 < settings.qp {
+    if MOST_QP < settings.qp {
         return Err(Refused {
             why: Refusal::Qp,
             component,
@@ -121,10 +116,10 @@ pub fn quant_nnz(block: &mut [i16], costs: &[u64; 28], coding: Coding) -> Result
     if costs_refused(costs) {
         return Err(Refusal::Cost.into());
     }
-    let one: usize = 1;
-    let n = one << (2 * coding.log2 as u32);
+    let a = side(coding.log2);
+    let n = a * a;
     if block.len() < n {
         return Err(Refusal::Length.into());
     }
-    code_block(&mut block[..n], costs, coding)
+    code_block(&mut block[..n], costs, coding).map_err(|why| Refused { why, component })
 }

@@ -3,12 +3,10 @@
 use Rattle.std.specs.Prelude.{◌≡◌, List, ℕ, ◌+◌, ◌^◌, ◌≤◌, ℤ, nat_abs}
 use Rattle.integers.specs.Sum.{over, on_ℕ, on_max}
 use Rattle.scaling.specs.declared.scale.Scale.{Scale}
-use Rattle.scaling.specs.Inner.Scale.{Sound}
 use Rattle.coding.specs.declared.Coded.{Coded}
 use Rattle.coefficients.specs.Inner.Coefficients.{Within, energy, zero_distortion}
 
 pub record Skippable (g : Scale) (block : List ℤ) (top empty : ℕ) : Type 0 where
-  pub sound : Sound g
   pub largest : top ≡ over on_max nat_abs block
   pub few : Within block 32767
   pub small : over on_ℕ energy block ≤ 2 ^ 31
