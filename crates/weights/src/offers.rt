@@ -23,7 +23,8 @@ impl Weights {
         let prices = self.prices;
         let m = (l + scale.half) >> scale.shift;
         let c = scale.squared(l, m) + prices.level_at(m);
-        if m == 1 {
+        let alone = m == 1;
+        if alone {
             return Offer { level: m, price: c };
         }
         let n = m - 1;

@@ -18,12 +18,12 @@ level_at-requires c =
       each_below w.prices w.scale c.args.l c.requires.0 _ (le_of_eq e),
     )
 
-pub returns-then-m-eq1 : goal.returns-then-m-eq1
-returns-then-m-eq1 c =
+pub returns-then-alone : goal.returns-then-alone
+returns-then-alone c =
     let w = c.args.self in
     let x = c.squared.ensures in
     let y = c.level_at.ensures in
-    offer_one w.prices w.scale c.args.l _ _ _ (rounding w.scale c.args.l) c.if-m-eq1.true
+    offer_one w.prices w.scale c.args.l _ _ _ (rounding w.scale c.args.l) c.if-alone.true
     (bare_is w.prices w.scale c.args.l _ _ _ x y) (omega (arith, x.small, y.small))
 
 pub overflow_sub-n : goal.overflow_sub-n
@@ -40,7 +40,7 @@ pub level_at-requires-2 : goal.level_at-requires-2
 level_at-requires-2 c =
     let w = c.args.self in
     let e = rounding w.scale c.args.l in (
-      some_left _ _ c.if-m-eq1.false (subst (λ (k : ℕ). 1 ≤ k) (sym e) c.requires.1) refl,
+      some_left _ _ c.if-alone.false (subst (λ (k : ℕ). 1 ≤ k) (sym e) c.requires.1) refl,
       each_below w.prices w.scale c.args.l c.requires.0 _ (omega arith),
     )
 
@@ -55,10 +55,10 @@ returns-then-d-c c =
     let lower = bare_is w.prices w.scale c.args.l _ _ _ c.squared_below.ensures c.level_at-2.ensures in
     elim c.then-d-c.branch [
       | then-d-c-via-then-d-c v ↦
-          offer_less w.prices w.scale c.args.l _ _ _ _ _ e c.if-m-eq1.false some refl upper lower
+          offer_less w.prices w.scale c.args.l _ _ _ _ _ e c.if-alone.false some refl upper lower
           (omega (arith, x.small, y.small)) v.if-d-c.true
       | then-d-c-via-else-d-c+then-d-c-2 v ↦
-          offer_tied w.prices w.scale c.args.l _ _ _ _ _ e c.if-m-eq1.false some refl upper lower
+          offer_tied w.prices w.scale c.args.l _ _ _ _ _ e c.if-alone.false some refl upper lower
           (omega (arith, x.small, y.small)) v.if-d-c-2.true.0 v.if-d-c-2.true.1
     ]
 
@@ -71,5 +71,5 @@ returns c =
     let some = subst (λ (k : ℕ). 1 ≤ k) (sym e) c.requires.1 in
     let upper = bare_is w.prices w.scale c.args.l _ _ _ x y in
     let lower = bare_is w.prices w.scale c.args.l _ _ _ c.squared_below.ensures c.level_at-2.ensures in
-    offer_upper w.prices w.scale c.args.l _ _ _ _ _ e c.if-m-eq1.false some refl upper lower
+    offer_upper w.prices w.scale c.args.l _ _ _ _ _ e c.if-alone.false some refl upper lower
     (omega (arith, x.small, y.small)) c.if-d-c-2.either c.if-d-c.false
