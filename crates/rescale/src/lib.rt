@@ -33,18 +33,19 @@ fn part(block: &mut [i16], times: &[i16], half: u32, down: u32)
     }
 }
 
-// Part after part.
+// Part after part, and what is left behind them: the compiler knows how long a part is.
 fn whole(block: &mut [i16], times: u32, half: u32, down: u32)
     requires { (times ≤ 18432) × (half ≤ 32) × (down ≤ 6) }
     ensures { block.new ≡ map (stepped (pos times) half down) block.old }
 {
     let factors = [times as i16; 64];
-    let n = block.len();
-    for k in 0..n.div_ceil(64) {
+    let parts = block.len() / 64;
+    for k in 0..parts {
         let start = 64 * k;
-        let end = n.min(start + 64);
+        let end = start + 64;
         part(&mut block[start..end], &factors, half, down);
     }
+    part(&mut block[64 * parts..], &factors, half, down);
 }
 
 // Every level of the block is scaled back.
