@@ -25,7 +25,7 @@ use Rattle.components.specs.Call.{requested, bit, runs, quant_of, quant_on, area
 use Rattle.components.specs.Inner.Groups.{settings_faults, buffer_faults}
 use Rattle.admission.specs.Inner.Tested.{first_of, Sizes, residuals}
 use Rattle.components.proofs.Blocks.{sample_of_stretch}
-use Rattle.admission.proofs.Stretches.{stretch_is}
+use Rattle.admission.proofs.Room.{stretch_is}
 
 module _ (b : List ℤ) (t : Costs) (q : Request) where
   abbrev pub bad_qp : Component → Bool

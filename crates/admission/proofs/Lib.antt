@@ -1,3 +1,3 @@
 pub mod Sides
-pub mod Stretches
+pub mod Room
 pub mod Groups

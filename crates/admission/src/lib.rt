@@ -59,30 +59,52 @@ pub fn test_settings(q: Request) -> Result<(), Refused>
     )
 }
 
-// How many places luma's block has.
-pub fn luma_places(log2: usize) -> usize
-    requires { (2 ≤ log2) × (log2 ≤ most_log2) }
-    ensures { Sizes log2 result }
-{
-    match log2 {
-        2 => 16,
-        3 => 64,
-        4 => 256,
-        _ => 1024,
-    }
+// How many places the three stretches of a buffer have, Y's, then U's, then V's: a chroma block has a quarter of luma's.
+#[derive(Clone, Copy)]
+pub struct Stretches {
+    pub luma: usize,
+    pub chroma: usize,
+    pub ghost small: { luma ≤ 1024 },
+    pub ghost quarter: { chroma ≡ luma / 4 },
 }
 
-// The stretches of a buffer in which luma has n places: Y's, then U's, then V's.
-pub fn stretches_of(buffer: &[i16], n: usize) -> Three<&[i16]>
-    requires { (n ≤ 1024) × (n + n / 4 + n / 4 ≤ length buffer.now) }
-    ensures { (k : Component) → (part_of k result).now ≡ residuals k n buffer.now }
-{
-    let (y, chroma) = buffer.split_at(n);
-    let (u, rest) = chroma.split_at(n / 4);
-    Three {
-        y,
-        u,
-        v: &rest[..n / 4],
+impl Stretches {
+    // By cases, so that the compiler knows how many there can be.
+    pub fn of(log2_luma: usize) -> Stretches
+        requires { (2 ≤ log2_luma) × (log2_luma ≤ most_log2) }
+        ensures { Sizes log2_luma result.luma }
+    {
+        let luma = match log2_luma {
+            2 => 16,
+            3 => 64,
+            4 => 256,
+            _ => 1024,
+        };
+        Stretches {
+            luma,
+            chroma: luma / 4,
+        }
+    }
+
+    // Where they end.
+    pub fn end(self) -> usize
+        ensures { result ≡ self.luma + self.luma / 4 + self.luma / 4 }
+    {
+        self.luma + self.chroma + self.chroma
+    }
+
+    // The three of a buffer.
+    pub fn parts(self, buffer: &[i16]) -> Three<&[i16]>
+        requires { self.luma + self.luma / 4 + self.luma / 4 ≤ length buffer.now }
+        ensures { (k : Component) → (part_of k result).now ≡ residuals k self.luma buffer.now }
+    {
+        let (y, chroma) = buffer.split_at(self.luma);
+        let (u, rest) = chroma.split_at(self.chroma);
+        Three {
+            y,
+            u,
+            v: &rest[..self.chroma],
+        }
     }
 }
 
@@ -95,10 +117,10 @@ pub fn test_buffer(buffer: &[i16], costs: &[u64; 28], q: Request) -> Result<(), 
     if costs_refused(costs) {
         return Err(Refused::from(Refusal::Cost));
     }
-    let n = luma_places(q.log2_luma);
-    if buffer.len() < n + n / 4 + n / 4 {
+    let stretches = Stretches::of(q.log2_luma);
+    if buffer.len() < stretches.end() {
         return Err(Refused::from(Refusal::Length));
     }
-    let parts = stretches_of(buffer, n);
+    let parts = stretches.parts(buffer);
     refuse_first(q.run, Refusal::Sample, |k| has_wild(parts.of(k)))
 }

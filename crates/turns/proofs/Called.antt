@@ -56,12 +56,9 @@ module _ {A : Type 0} (answers : Component → List ℤ → Outcome A) (leaves :
         }
 
   -- ---- or none does
-  module _ (n : ℕ) (z : Sizes q.log2_luma n) (early : EarlyPassed s) where
-    abbrev end : ℕ
-    end = n + n / 4 + n / 4
-
+  module _ (n : ℕ) (z : Sizes q.log2_luma n) (end : ℕ) (its_end : end ≡ n + n / 4 + n / 4) (early : EarlyPassed s) where
     is : (k : Component) → residuals k n (take end b) ≡ stretch k s
-    is = room_holds b t q early n z
+    is = room_holds b t q early n z end its_end
 
     pub three_coded : (front : List ℤ) → Parted answers leaves n (take end b) front r
         → ((x : Refused) → r ≡ Err x → front ≡ take end b) → Called answers leaves s (front ++ drop end b) r
@@ -77,6 +74,6 @@ module _ {A : Type 0} (answers : Component → List ℤ → Outcome A) (leaves :
           left = λ a h. ap (λ (l : List ℤ). l ++ D) (parted.left a h ∙ (λ i. leaves Y (is Y i) ++ (leaves U (is U i) ++ leaves «V» (is «V» i))))
               ∙ append_assoc y (u ++ v) D
               ∙ ap (λ (l : List ℤ). y ++ l) (append_assoc u v D)
-              ∙ ap (λ (k : ℕ). y ++ (u ++ (v ++ drop k b))) (three_end b t q n z);
+              ∙ ap (λ (k : ℕ). y ++ (u ++ (v ++ drop k b))) (its_end ∙ three_end b t q n z);
           kept = λ x h. ap (λ (l : List ℤ). l ++ drop end b) (kept x h) ∙ take-append-drop end b;
         }

@@ -19,7 +19,7 @@ use Rattle.components.specs.Inner.Groups.{settings_faults, EarlyPassed}
 use Rattle.components.proofs.Accepted.{sides_fine, qp_fine, lambda_fine, costs_fine, long_enough, residuals_tame}
 use Rattle.components.proofs.Alone.{stretch_long}
 use Rattle.admission.specs.Inner.Tested.{Sizes, residuals}
-use Rattle.admission.proofs.Stretches.{stretch_is}
+use Rattle.admission.proofs.Room.{stretch_is}
 use Rattle.stretch.specs.Inner.Part.{log2_in, Ready}
 use Rattle.turns.specs.Inner.Parts.{AllReady}
 
@@ -50,10 +50,7 @@ module _ (b : List ℤ) (t : Costs) (q : Request) where
           tame = residuals_tame s early.buffer k;
         }
 
-    module _ (n : ℕ) (z : Sizes q.log2_luma n) where
-      abbrev end : ℕ
-      end = n + n / 4 + n / 4
-
+    module _ (n : ℕ) (z : Sizes q.log2_luma n) (end : ℕ) (is : end ≡ n + n / 4 + n / 4) where
       pub room_of : end ≤ length b
       unfolding requested area
       room_of = omega (arith, long_enough s early.buffer, z.three, ap (λ (k : ℕ). k * 3 / 2) z.luma)
@@ -63,10 +60,13 @@ module _ (b : List ℤ) (t : Costs) (q : Request) where
       room_holds U = part_of_front n (n / 4) end b (omega arith) ∙ stretch_is b t q n z U
       room_holds «V» = part_of_front (n + n / 4) (n / 4) end b (omega arith) ∙ stretch_is b t q n z «V»
 
+      pub front_long : length (take end b) ≡ end
+      front_long = length-take-le end b room_of
+
       pub all_ready : AllReady t q n (take end b)
       all_ready =
           record {
             sizes = z;
-            long = length-take-le end b room_of;
+            long = front_long ∙ is;
             parts = λ k. subst (λ (r : List ℤ). Ready k t q r) (sym (room_holds k)) (stretch_ready k);
           }

@@ -15,7 +15,7 @@ ghost use Rattle.stretch.specs.Inner.Part.{Ready};
 ghost use Rattle.refusals.specs.declared.Refused.{Refused};
 ghost use Rattle.turns.specs.Inner.Parts.{AllReady, Parted, Called};
 
-use admission::{luma_places, stretches_of, test_buffer, test_settings};
+use admission::{Stretches, test_buffer, test_settings};
 use components::Request;
 use refusals::{Component, Refused, Three};
 
@@ -46,7 +46,7 @@ pub trait Coder {
             → part.new ≡ left self.now (costs_of costs.now) q component part.old };
 }
 
-// The three components of a room that holds their residuals: n places of Y, a quarter of that of U and of V.
+// The three components of a room that holds their residuals.
 fn in_turn<C: Coder>(
     coder: &C,
     room: &mut [i16],
@@ -54,16 +54,16 @@ fn in_turn<C: Coder>(
     shown: &mut [i16],
     costs: &[u64; 28],
     q: Request,
-    n: usize,
+    stretches: Stretches,
 ) -> Result<Three<C::Share>, Refused>
-    requires ready { AllReady (costs_of costs.now) q n room.old }
+    requires ready { AllReady (costs_of costs.now) q stretches.luma room.old }
     requires given { (room.old ≡ residuals.now) × (C.wide ≤ length shown.old) }
-    ensures { Parted (C.answer coder.now (costs_of costs.now) q) (C.left coder.now (costs_of costs.now) q) n room.old
-        room.new result }
+    ensures { Parted (C.answer coder.now (costs_of costs.now) q) (C.left coder.now (costs_of costs.now) q)
+        stretches.luma room.old room.new result }
 {
-    let parts = stretches_of(residuals, n);
-    let (of_y, chroma) = room.split_at_mut(n);
-    let (of_u, of_v) = chroma.split_at_mut(n / 4);
+    let parts = stretches.parts(residuals);
+    let (of_y, chroma) = room.split_at_mut(stretches.luma);
+    let (of_u, of_v) = chroma.split_at_mut(stretches.chroma);
     let y = coder.code(of_y, parts.y, shown, costs, q, Component::Y)?;
     let u = coder.code(of_u, parts.u, shown, costs, q, Component::U)?;
     let v = coder.code(of_v, parts.v, shown, costs, q, Component::V)?;
@@ -78,16 +78,16 @@ fn in_room<C: Coder>(
     shown: &mut [i16],
     costs: &[u64; 28],
     q: Request,
-    n: usize,
+    stretches: Stretches,
 ) -> Result<Three<C::Share>, Refused>
-    requires ready { AllReady (costs_of costs.now) q n front.old }
+    requires ready { AllReady (costs_of costs.now) q stretches.luma front.old }
     requires given { (length room.old ≡ length front.old) × (C.wide ≤ length shown.old) }
-    ensures parted { Parted (C.answer coder.now (costs_of costs.now) q) (C.left coder.now (costs_of costs.now) q) n
-        front.old front.new result }
+    ensures parted { Parted (C.answer coder.now (costs_of costs.now) q) (C.left coder.now (costs_of costs.now) q)
+        stretches.luma front.old front.new result }
     ensures kept { (r : Refused) → result ≡ Err r → front.new ≡ front.old }
 {
     room.copy_from_slice(front);
-    let shares = in_turn(coder, room, front, shown, costs, q, n)?;
+    let shares = in_turn(coder, room, front, shown, costs, q, stretches)?;
     front.copy_from_slice(room);
     Ok(shares)
 }
@@ -105,8 +105,8 @@ fn code_tested<C: Coder>(
     ensures { Called (C.answer coder.now (costs_of costs.now) q) (C.left coder.now (costs_of costs.now) q)
         (requested buffer.old (costs_of costs.now) q) buffer.new result }
 {
-    let n = luma_places(q.log2_luma);
-    let end = n + n / 4 + n / 4;
+    let stretches = Stretches::of(q.log2_luma);
+    let end = stretches.end();
     let mut room = [0i16; 1536];
     in_room(
         coder,
@@ -115,7 +115,7 @@ fn code_tested<C: Coder>(
         shown,
         costs,
         q,
-        n,
+        stretches,
     )
 }
 

@@ -6,21 +6,21 @@ use Rattle.transform.specs.Call.{wild}
 use Rattle.price.specs.Costs.{costs_of}
 use Rattle.admission.specs.Inner.Tested.{residuals}
 use Rattle.admission.proofs.Groups.{costs_refused, length_refused, residuals_left}
-use Rattle.admission.proofs.Stretches.{short, long}
+use Rattle.admission.proofs.Room.{short, long}
 use Rattle.admission.proofs.test_buffer.Goals as goal
 
 pub returns-then-costs_refused : goal.returns-then-costs_refused
 returns-then-costs_refused c =
     rw c.from.ensures (costs_refused c.args.buffer.now (costs_of c.args.costs.now) c.args.q (sym c.if-costs_refused.ensures))
 
-pub returns-then-buffer-n : goal.returns-then-buffer-n
-returns-then-buffer-n c =
-    rw c.from-then-buffer-n.ensures
-    (length_refused c.args.buffer.now (costs_of c.args.costs.now) c.args.q _ c.luma_places-n.ensures (sym c.if-costs_refused.ensures)
-    (short _ _ _ c.luma_places-n.ensures c.if-buffer-n.true))
+pub returns-then-buffer-end : goal.returns-then-buffer-end
+returns-then-buffer-end c =
+    rw c.from-then-buffer-end.ensures
+    (length_refused c.args.buffer.now (costs_of c.args.costs.now) c.args.q _ c.of-stretches.ensures (sym c.if-costs_refused.ensures)
+    (short _ _ _ _ c.of-stretches.ensures c.end.ensures c.if-buffer-end.true))
 
 pub returns : goal.returns
 returns c =
-    residuals_left c.args.buffer.now (costs_of c.args.costs.now) c.args.q _ c.luma_places-n.ensures (sym c.if-costs_refused.ensures)
-    (long _ _ _ c.luma_places-n.ensures c.if-buffer-n.false)
-    (c.refuse_first.ensures (λ k. some wild (residuals k c.luma_places-n.result c.args.buffer.now)) (λ k b h. search rules))
+    residuals_left c.args.buffer.now (costs_of c.args.costs.now) c.args.q _ c.of-stretches.ensures (sym c.if-costs_refused.ensures)
+    (long _ _ _ _ c.of-stretches.ensures c.end.ensures c.if-buffer-end.false)
+    (c.refuse_first.ensures (λ k. some wild (residuals k c.of-stretches.result.luma c.args.buffer.now)) (λ k b h. search rules))

@@ -32,9 +32,3 @@ abbrev pub residuals : Component → ℕ → List ℤ → List ℤ
 residuals Y n l = take n l
 residuals U n l = take (n / 4) (drop n l)
 residuals «V» n l = take (n / 4) (drop (n + n / 4) l)
-
--- the same as code lends it, from one place to another
-abbrev pub lent : Component → ℕ → List ℤ → List ℤ
-lent Y n l = take (n - 0) (drop 0 l)
-lent U n l = take (n + n / 4 - n) (drop n l)
-lent «V» n l = take (n + n / 4 + n / 4 - (n + n / 4)) (drop (n + n / 4) l)
