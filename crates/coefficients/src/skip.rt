@@ -1,5 +1,5 @@
 // Magnitudes of coefficients, and the quick skip: a part of the block at a time, by the part's largest magnitude.
-ghost use Rattle.std.specs.Prelude.{◌≡◌, ◌≤◌, ◌<◌, nat_abs};
+ghost use Rattle.std.specs.Prelude.{◌≡◌, ◌≤◌, ◌<◌};
 ghost use Rattle.coefficients.specs.Inner.Coefficients.{Largest, Reached};
 
 pub fn largest(part: &[i16]) -> u32
@@ -26,14 +26,4 @@ pub fn skipped_top(block: &[i16], q: u32, threshold: u64) -> Option<u32>
         }
     }
     Some(top)
-}
-
-pub fn absolute(c: i16) -> u32
-    ensures { (result ≡ nat_abs c) × (result ≤ 32768) }
-{
-    if c < 0 {
-        (-(c as i32)) as u32
-    } else {
-        c as u32
-    }
 }

@@ -1,4 +1,4 @@
--- The magnitudes of a block, in scan order: those of its coefficients, which make its places. Assumes nothing.
+-- The magnitudes of a block, in scan order: those of its coefficients, which make its places.
 use mathlib.Core.Path.{◌≡◌, sym, ap, fun_ext, ◌∙◌}
 use mathlib.Core.List.{List, map, map-map}
 use Prim.Native.Nat.{ℕ, ◌*◌, ◌<◌}
@@ -8,7 +8,8 @@ use Rattle.integers.specs.Sum.{at}
 use Rattle.scan.specs.Scan.{scan, scan_at}
 use Rattle.scan.specs.Order.{in_order}
 use Rattle.price.specs.Level.{scaled}
-use Rattle.weights.specs.Inner.Places.{in_scan, Scanned}
+use Rattle.weights.specs.Inner.Places.{in_scan}
+use Rattle.scan.specs.Scanned.{Scanned}
 use Rattle.weights.proofs.Places.{scan_at_lem}
 
 module _ (w h : ℕ) (block : List ℤ) where

@@ -1,6 +1,6 @@
 -- Levels read back: the magnitudes of a block on which levels are laid, in scan order, are the levels' own. That levels
 -- put down by rows are those laid along the scan is `same_block` of `signs`, and that there are as many of them
--- `same_count` of `weights`. Assumes nothing.
+-- `same_count` of `weights`.
 use mathlib.Core.Path.{◌≡◌, sym, ◌∙◌}
 use mathlib.Core.List.{List, map}
 use Prim.Native.Nat.{ℕ, ◌*◌, ◌≤◌}
@@ -11,7 +11,8 @@ use Rattle.scan.specs.Scan.{scan}
 use Rattle.scan.specs.Order.{laid, in_order}
 use Rattle.coding.specs.Block.{signs}
 use Rattle.coding.proofs.Signed.{laid_magnitudes}
-use Rattle.weights.specs.Inner.Places.{in_scan, Scanned}
+use Rattle.weights.specs.Inner.Places.{in_scan}
+use Rattle.scan.specs.Scanned.{Scanned}
 use Rattle.order.proofs.Coefficients.{magnitudes_in_scan}
 
 pub levels_in_scan : (w h : ℕ) (held : List ℕ) → Scanned w h held → (block : List ℤ) (ms : List ℕ)

@@ -1,6 +1,5 @@
 -- Magnitudes in scan order put down by rows, one by one, whatever stood there before: each scan place is met once, so
 -- that what is put stays.
--- Assumes nothing.
 use mathlib.Core.Path.{◌≡◌, ◌∙◌}
 use mathlib.Core.List.{List}
 use Prim.Native.Nat.{ℕ, ◌+◌, ◌*◌, ◌<◌}
@@ -9,7 +8,7 @@ use borrow.Author.Count.{below_more}
 use lib.ListN.{length, get_or, set}
 use lib.Seq.{get_or-set_same, get_or-set_other}
 use Rattle.scan.specs.Scan.{scan_at}
-use Rattle.weights.specs.Inner.Places.{Scanned}
+use Rattle.scan.specs.Scanned.{Scanned}
 use Rattle.weights.proofs.Places.{inside, apart}
 
 -- before place n

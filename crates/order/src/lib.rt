@@ -4,10 +4,9 @@
 
 ghost use Rattle.std.specs.Prelude.{◌≡◌, map, ◌≤◌, ◌*◌, length, nat_abs};
 ghost use Rattle.coefficients.specs.Inner.Coefficients.{Within};
-ghost use Rattle.weights.specs.Inner.Places.{in_scan, Scanned, Standing};
+ghost use Rattle.weights.specs.Inner.Places.{in_scan, Standing};
 
-use coefficients::skip::absolute;
-use scan::{block_place, magnitude_at, put_magnitude, scan_place};
+use scan::{Scan, put, scan_place, value_at};
 
 // |z| of each sample.
 pub fn magnitudes(block: &[i16], out: &mut [u16])
@@ -15,34 +14,28 @@ pub fn magnitudes(block: &[i16], out: &mut [u16])
     ensures { (out.new ≡ map nat_abs block.now)
         × Within block.now 32768 }
 {
-    let mut i = 0;
-    while i < block.len() {
-        out[i] = absolute(block[i]) as u16;
-        i += 1;
+    for (i, z) in block.iter().enumerate() {
+        out[i] = z.unsigned_abs();
     }
 }
 
 // Magnitudes by rows, in scan order.
-pub fn gather(rows: &[u16], scan: &[u16], w: usize, h: usize, out: &mut [u16])
-    requires { Scanned w h scan.now × (length rows.now ≡ w * h) × (length out.old ≡ w * h) }
-    ensures { out.new ≡ in_scan w h rows.now }
+pub fn gather(rows: &[u16], scan: Scan, out: &mut [u16])
+    requires { (length rows.now ≡ scan.w * scan.h) × (length out.old ≡ scan.w * scan.h) }
+    ensures { out.new ≡ in_scan scan.entry.w scan.entry.h rows.now }
 {
-    let mut n = 0;
-    while n < out.len() {
-        out[n] = magnitude_at(rows, block_place(scan, w, h, scan_place(n)));
-        n += 1;
+    for n in 0..out.len() {
+        out[n] = value_at(rows, scan.block_place(scan_place(n)));
     }
 }
 
 // Magnitudes in scan order, by rows.
-pub fn spread(ms: &[u16], scan: &[u16], w: usize, h: usize, rows: &mut [u16])
-    requires { Scanned w h scan.now × (length ms.now ≡ w * h) × (length rows.old ≡ w * h) }
-    ensures { (length rows.new ≡ w * h)
-        × Standing w h rows.new ms.now }
+pub fn spread(ms: &[u16], scan: Scan, rows: &mut [u16])
+    requires { (length ms.now ≡ scan.w * scan.h) × (length rows.old ≡ scan.w * scan.h) }
+    ensures { (length rows.new ≡ scan.entry.w * scan.entry.h)
+        × Standing scan.entry.w scan.entry.h rows.new ms.now }
 {
-    let mut n = 0;
-    while n < ms.len() {
-        put_magnitude(rows, block_place(scan, w, h, scan_place(n)), ms[n]);
-        n += 1;
+    for (n, m) in ms.iter().enumerate() {
+        put(rows, scan.block_place(scan_place(n)), *m);
     }
 }

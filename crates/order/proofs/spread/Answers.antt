@@ -2,7 +2,7 @@
 use mathlib.Core.Path.{◌≡◌, ap, ◌∙◌}
 use Prim.Native.Nat.{ℕ}
 use native.Mathlib.Omega.{arith}
-use lib.ListN.{length-set, get_or, set}
+use lib.ListN.{get_or, set}
 use Rattle.scan.specs.Scan.{scan_at}
 use Rattle.order.proofs.Spreading.{spread_more}
 use Rattle.order.proofs.spread.Goals as goal
@@ -12,10 +12,9 @@ loop-n-preserved c =
     let a = c.args in
     let l = c.loop-n in
     let v = get_or a.ms.now l.n 0 in
-    let after : c.put_magnitude.new.magnitudes ≡ set l.rows (scan_at a.w a.h l.n) v =
-    c.put_magnitude.ensures
-    ∙ ap (λ (k : ℕ). set l.rows k v) (c.block_place.ensures.0 ∙ ap (scan_at a.w a.h) c.scan_place.ensures.0) in
-    rw after (
-      simp length-set l.invariant.0,
-      spread_more a.w a.h a.scan.now c.requires.0 l.rows a.ms.now l.invariant.0 l.n (omega arith) l.invariant.1,
-    )
+    let after : c.put.new.values ≡ set l.rows (scan_at a.scan.w a.scan.h l.n) v =
+    c.put.ensures
+    ∙ ap (λ (k : ℕ). set l.rows k v) (c.block_place.ensures.0 ∙ ap (scan_at a.scan.w a.scan.h) c.scan_place.ensures.0) in
+    rw after
+    (spread_more a.scan.w a.scan.h a.scan.held.now a.scan.scanned l.rows a.ms.now (omega arith) l.n (omega arith)
+    l.invariant)
