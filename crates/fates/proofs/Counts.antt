@@ -1,4 +1,4 @@
--- Of the first n fates none comes more than n times, so that a count fits.
+-- Of the first n fates none comes more than n times, so that a count fits; and how a tally grows by one fate.
 use mathlib.Core.Path.{◌≡◌, refl, sym, ap, subst, ◌∙◌}
 use Prim.Native.Nat.{ℕ, zero, suc, ◌+◌, ◌≤◌, zero-le}
 use native.Mathlib.Numerals.{add-one}

@@ -1,5 +1,5 @@
 // The whole pictures on the page.
-ghost use Rattle.std.specs.Prelude.{◌≤◌};
+ghost use Rattle.std.specs.Prelude.{◌≡◌, ◌+◌, ◌/◌, ◌≤◌};
 
 use picture::Size;
 use std::fmt::{Display, Formatter, Result, Write};
@@ -14,7 +14,11 @@ pub struct Pictures<'a> {
 
 impl<'a> Pictures<'a> {
     // The two beside each other, a grey for some samples of some rows, so that they fit on a line.
-    pub fn greys(self) -> Greys<'a> {
+    pub fn greys(self) -> Greys<'a>
+        ensures { (result.step ≡ (self.entry.size.width + 55) / 56)
+            × (result.pictures.camera.now ≡ self.entry.camera.now)
+            × (result.pictures.shown.now ≡ self.entry.shown.now) }
+    {
         Greys {
             pictures: self,
             step: self.size.width.div_ceil(56),
@@ -22,7 +26,9 @@ impl<'a> Pictures<'a> {
     }
 
     // The one that is shown.
-    pub fn pgm(self) -> Pgm<'a> {
+    pub fn pgm(self) -> Pgm<'a>
+        ensures { (result.size ≡ self.entry.size) × (result.samples.now ≡ self.entry.shown.now) }
+    {
         Pgm {
             size: self.size,
             samples: self.shown,

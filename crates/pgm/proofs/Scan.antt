@@ -1,5 +1,5 @@
 -- A gap and a run of digits byte by byte: what is left of each where a byte belongs to it, where one does not, and
--- where the text ends.
+-- where the text ends. The loops of `past_gap` and `digits` go by it.
 use mathlib.Core.Path.{◌≡◌, refl}
 use mathlib.Core.Bool.{Bool, true, false}
 use mathlib.Core.List.{List}

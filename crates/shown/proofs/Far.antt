@@ -1,4 +1,4 @@
--- The place that lies farthest by a distance of each, among one more each turn.
+-- The place that lies farthest by a distance of each, among one more each turn: a turn of `worst_by`.
 use mathlib.Core.Path.{◌≡◌, refl}
 use mathlib.Core.Bool.{Bool, true, false, cond}
 use Prim.Native.Nat.{ℕ, ◌+◌, ◌≤◌}
