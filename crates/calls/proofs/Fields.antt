@@ -1,6 +1,5 @@
 -- The fields of a verb, in a list that may be longer: an answer is by its verb's own fields alone, and those that cross
 -- as numbers of 32 bits are short enough.
--- Assumes nothing.
 use mathlib.Core.Path.{◌≡◌, subst, ap}
 use mathlib.Core.List.{List, [], ◌∷◌}
 use Prim.Native.Nat.{ℕ, zero, suc, ◌+◌, ◌<◌}

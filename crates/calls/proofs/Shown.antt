@@ -1,10 +1,9 @@
 -- A reply made by what a call left is the answer line that shows it: by the result of the call, its answer and its
 -- buffer, of any call; then for those that answer a verdict alone, and for each of the others.
--- Assumes nothing.
 use mathlib.Core.Path.{◌≡◌, refl}
 use mathlib.Core.Bool.{Bool, true, false, cond}
 use mathlib.Core.List.{List, [], ◌∷◌}
-use mathlib.Core.Option.{Option, none, some}
+use Rattle.std.proofs.Common.{Option, Some, None}
 use Prim.Native.Nat.{ℕ, ◌≤◌}
 use native.Mathlib.Omega.{arith}
 use lib.Dec.{eqb}
@@ -52,22 +51,22 @@ pub verdict_shown : (verdict : Outcome Unit) (list : Option (List ℕ)) (buffer 
 verdict_shown verdict list buffer r block h = rw (h.result, h.left)
 
 pub quant_shown : (c : Quant) (r : ℕ) (answer : List ℕ) (block : List ℤ) → QuantLeft c r answer block
-    → shown r (get_or answer 0 0) (get_or answer 1 0 ∷ get_or answer 2 0 ∷ []) none block ≡ quant_text c
+    → shown r (get_or answer 0 0) (get_or answer 1 0 ∷ get_or answer 2 0 ∷ []) None block ≡ quant_text c
 quant_shown c r answer block h = rw (h.result, h.written, h.left)
 
 pub three_shown : (s : SubBlock) (r : ℕ) (w : List ℕ) (buffer : List ℤ) → ThreeLeft s r w buffer
     → shown r (get_or w 0 0) (get_or w 1 0 ∷ get_or w 4 0 ∷ get_or w 2 0 ∷ get_or w 5 0 ∷ get_or w 3 0 ∷ get_or w 6 0 ∷ [])
-    none buffer ≡ three_text s
+    None buffer ≡ three_text s
 three_shown s r w buffer h = rw (h.result, h.written, h.left)
 
 pub guarded_shown : (g : GuardedBlock) (r : ℕ) (w : List ℕ) (buffer : List ℤ) → GuardedLeft g r w buffer
-    → shown r (get_or w 0 0) (guarded_numbers w) none buffer ≡ guarded_text g
+    → shown r (get_or w 0 0) (guarded_numbers w) None buffer ≡ guarded_text g
 guarded_shown g r w buffer h = rw (h.result, h.written, h.left)
 
 pub measure_shown : (m : Measure) (r : ℕ) (w : List ℕ) (samples : List ℤ) → MeasureLeft m r w
-    → shown r 0 (get_or w 0 0 ∷ get_or w 1 0 ∷ []) none samples ≡ measure_text m samples
+    → shown r 0 (get_or w 0 0 ∷ get_or w 1 0 ∷ []) None samples ≡ measure_text m samples
 measure_shown m r w samples h = rw (h.result, h.written)
 
 pub write_shown : (w : Write) (r : ℕ) (answer list : List ℕ) → WriteLeft w r answer list
-    → shown r 0 (get_or answer 0 0 ∷ []) (some list) w.buffer ≡ write_text w
+    → shown r 0 (get_or answer 0 0 ∷ []) (Some list) w.buffer ≡ write_text w
 write_shown w r answer list h = rw (h.result, h.written, h.left)

@@ -1,7 +1,7 @@
 -- What a request is answered by: the call that its fields ask for, made by the numbers that cross to C (`surface`), and
 -- the answer line that shows what the call left: its result, its answer, its list, if it has one, and its buffer.
 use Rattle.std.specs.Prelude.{true, false, cond, List, [], ◌∷◌, ℕ, eqb, Float, ℤ, get_or, take, drop}
-use Rattle.std.proofs.Math.Option.{Option, none, some}
+use Rattle.std.specs.Prelude.{Option, Some, None}
 use Rattle.std.specs.Float.{binary64}
 use Rattle.std.specs.Float.Ieee.{of_bits}
 use Rattle.refusals.specs.declared.Component.{Component}
@@ -95,19 +95,19 @@ abbrev pub verdict_text : Outcome Unit → (list : Option (List ℕ)) → List �
 verdict_text verdict list buffer = shown (result_of verdict) 0 [] list buffer
 
 abbrev pub trans_text : Trans → List ℕ
-trans_text t = verdict_text (trans_verdict t) none (trans_buffer t)
+trans_text t = verdict_text (trans_verdict t) None (trans_buffer t)
 
 abbrev pub scale_text : ScaleBack → List ℕ
-scale_text s = verdict_text (scale_verdict s) none (scale_buffer s)
+scale_text s = verdict_text (scale_verdict s) None (scale_buffer s)
 
 abbrev pub inverse_text : Inverse → List ℕ
-inverse_text t = verdict_text (inverse_verdict t) none (inverse_buffer t)
+inverse_text t = verdict_text (inverse_verdict t) None (inverse_buffer t)
 
 -- the count and the price
 abbrev pub quant_text : Quant → List ℕ
 quant_text c =
     let w = quant_written (quant_answer c) in
-    shown (result_of (quant_answer c)) (get_or w 0 0) (get_or w 1 0 ∷ get_or w 2 0 ∷ []) none (quant_buffer c)
+    shown (result_of (quant_answer c)) (get_or w 0 0) (get_or w 1 0 ∷ get_or w 2 0 ∷ []) None (quant_buffer c)
 
 -- the count and the price of Y, of U, of V
 abbrev pub three_text : SubBlock → List ℕ
@@ -115,7 +115,7 @@ three_text s =
     let w = three_written (sub_block_answer s) in
     shown (result_of (sub_block_answer s)) (get_or w 0 0)
     (get_or w 1 0 ∷ get_or w 4 0 ∷ get_or w 2 0 ∷ get_or w 5 0 ∷ get_or w 3 0 ∷ get_or w 6 0 ∷ [])
-    none (sub_block_buffer s)
+    None (sub_block_buffer s)
 
 -- the count and the price of Y, of U, of V, how much darker each gets, how much lighter
 abbrev pub guarded_numbers : List ℕ → List ℕ
@@ -126,23 +126,23 @@ guarded_numbers w =
 abbrev pub guarded_text : GuardedBlock → List ℕ
 guarded_text g =
     let w = guarded_written (guarded_answer g) in
-    shown (result_of (guarded_answer g)) (get_or w 0 0) (guarded_numbers w) none (guarded_buffer g)
+    shown (result_of (guarded_answer g)) (get_or w 0 0) (guarded_numbers w) None (guarded_buffer g)
 
 -- how much darker and how much lighter, and the samples as they were
 abbrev pub measure_text : Measure → List ℤ → List ℕ
 measure_text m samples =
     let w = measure_written (measure_answer m) in
-    shown (result_of (measure_answer m)) 0 (get_or w 0 0 ∷ get_or w 1 0 ∷ []) none samples
+    shown (result_of (measure_answer m)) 0 (get_or w 0 0 ∷ get_or w 1 0 ∷ []) None samples
 
 -- how many symbols were written, the list as it was left, and the samples as they were
 abbrev pub write_text : Write → List ℕ
 write_text w =
     let n = write_written (write_answer w) in
-    shown (result_of (write_answer w)) 0 (get_or n 0 0 ∷ []) (some (write_list w)) w.buffer
+    shown (result_of (write_answer w)) 0 (get_or n 0 0 ∷ []) (Some (write_list w)) w.buffer
 
 -- the list as it was
 abbrev pub read_text : Read → List ℕ
-read_text r = verdict_text (read_verdict r) (some r.list) (read_buffer r)
+read_text r = verdict_text (read_verdict r) (Some r.list) (read_buffer r)
 
 -- what a verb with its fields, its list and its samples is answered by
 unfoldable pub answered : Verb → (f list : List ℕ) → List ℤ → List ℕ

@@ -2,8 +2,7 @@
 // and what the call left as a reply. The reply's text is the definition's (specs/Calls.antt).
 #![tactic(auto)]
 
-ghost use Rattle.std.proofs.Math.Option.{none, some};
-ghost use Rattle.std.specs.Prelude.{◌≡◌, ◌+◌, ◌≤◌, length, get_or, take, drop};
+ghost use Rattle.std.specs.Prelude.{◌≡◌, ◌≤◌, length, get_or, take, drop};
 ghost use Rattle.replies.specs.Reply.{list_if};
 ghost use Rattle.requests.specs.Request.{kinds_of, has_list, Limited};
 ghost use Rattle.surface.specs.Surface.{quant_asked, QuantLeft};
@@ -22,25 +21,13 @@ use numerals::number::double_of;
 use replies::Reply;
 use verbs::Verb;
 
-fn copy(from: &[u64], to: &mut [u64])
-    requires { (length from.now ≡ length to.old) × (length to.old ≤ 28) }
-    ensures { to.new ≡ from.now }
-{
-    let n = to.len();
-    let mut i = 0;
-    while i < n {
-        to[i] = from[i];
-        i += 1;
-    }
-}
-
 // The 28 costs that stand from field i on.
-fn costs_from(fields: &[u64], i: usize) -> [u64; 28]
-    requires { (i + 28 ≤ length fields.now) × (i ≤ 40) }
+fn costs_from(fields: &[u64; 48], i: usize) -> [u64; 28]
+    requires { i ≤ 20 }
     ensures { result ≡ take 28 (drop i fields.now) }
 {
-    let mut costs = [0u64; 28];
-    copy(&fields[i..i + 28], &mut costs);
+    let mut costs = [0; 28];
+    costs.copy_from_slice(&fields[i..i + 28]);
     costs
 }
 
@@ -62,10 +49,9 @@ fn reply_by(res: u32, component: u64, count: usize, numbers: [u64; 12]) -> Reply
     }
 }
 
-fn call_transform(room: &mut [i16], fields: &[u64]) -> Reply
-    requires { length fields.now ≡ 48 }
+fn call_transform(room: &mut [i16], fields: &[u64; 48]) -> Reply
     ensures { Replied (trans_text (trans_by fields.now room.old))
-        room.old result none room.new }
+        room.old result None room.new }
 {
     let result = galemosu_transform(room, fields[0] as usize, fields[1] as usize);
     reply_by(result, 0, 0, [0; 12])
@@ -86,19 +72,17 @@ fn quantise_by(
         (quant_asked (component_by component) room.old log2 qp lambda flags costs.now)
         result answer.new room.new }
 {
-    if component == 0 {
-        return galemosu_quantise_y(room, log2, qp, lambda, flags, costs, answer);
+    match component {
+        0 => galemosu_quantise_y(room, log2, qp, lambda, flags, costs, answer),
+        1 => galemosu_quantise_u(room, log2, qp, lambda, flags, costs, answer),
+        _ => galemosu_quantise_v(room, log2, qp, lambda, flags, costs, answer),
     }
-    if component == 1 {
-        return galemosu_quantise_u(room, log2, qp, lambda, flags, costs, answer);
-    }
-    galemosu_quantise_v(room, log2, qp, lambda, flags, costs, answer)
 }
 
-fn call_quantise(room: &mut [i16], fields: &[u64]) -> Reply
-    requires { Short fields.now 2 × Short fields.now 4 × (length fields.now ≡ 48) }
+fn call_quantise(room: &mut [i16], fields: &[u64; 48]) -> Reply
+    requires { Short fields.now 2 × Short fields.now 4 }
     ensures { Replied (quant_text (quant_by fields.now room.old))
-        room.old result none room.new }
+        room.old result None room.new }
 {
     let lambda = double_of(fields[3]);
     let costs = costs_from(fields, 5);
@@ -122,16 +106,15 @@ fn call_quantise(room: &mut [i16], fields: &[u64]) -> Reply
 }
 
 // The QPs of Y, U and V.
-fn qps_of(fields: &[u64]) -> [u32; 3]
-    requires { Short fields.now 2 × Short fields.now 4 × Short fields.now 6 × (length fields.now ≡ 48) }
+fn qps_of(fields: &[u64; 48]) -> [u32; 3]
+    requires { Short fields.now 2 × Short fields.now 4 × Short fields.now 6 }
     ensures { result ≡ qps_by fields.now }
 {
     [fields[2] as u32, fields[4] as u32, fields[6] as u32]
 }
 
 // The lambdas of Y, U and V.
-fn lambdas_of(fields: &[u64]) -> [f64; 3]
-    requires { length fields.now ≡ 48 }
+fn lambdas_of(fields: &[u64; 48]) -> [f64; 3]
     ensures { result ≡ lambdas_by fields.now }
 {
     [
@@ -141,11 +124,10 @@ fn lambdas_of(fields: &[u64]) -> [f64; 3]
     ]
 }
 
-fn call_sub_block(room: &mut [i16], fields: &[u64]) -> Reply
-    requires { Short fields.now 1 × Short fields.now 2 × Short fields.now 4 × Short fields.now 6
-        × Short fields.now 8 × (length fields.now ≡ 48) }
+fn call_sub_block(room: &mut [i16], fields: &[u64; 48]) -> Reply
+    requires { Short fields.now 1 × Short fields.now 2 × Short fields.now 4 × Short fields.now 6 × Short fields.now 8 }
     ensures { Replied (three_text (three_by fields.now room.old))
-        room.old result none room.new }
+        room.old result None room.new }
 {
     let qp = qps_of(fields);
     let lambda = lambdas_of(fields);
@@ -171,27 +153,26 @@ fn call_sub_block(room: &mut [i16], fields: &[u64]) -> Reply
     )
 }
 
-fn call_scale_back(room: &mut [i16], fields: &[u64]) -> Reply
-    requires { Short fields.now 1 × (length fields.now ≡ 48) }
+fn call_scale_back(room: &mut [i16], fields: &[u64; 48]) -> Reply
+    requires { Short fields.now 1 }
     ensures { Replied (scale_text (scale_by fields.now room.old))
-        room.old result none room.new }
+        room.old result None room.new }
 {
     let result = galemosu_scale_back(room, fields[0] as usize, fields[1] as u32);
     reply_by(result, 0, 0, [0; 12])
 }
 
-fn call_inverse(room: &mut [i16], fields: &[u64]) -> Reply
-    requires { length fields.now ≡ 48 }
+fn call_inverse(room: &mut [i16], fields: &[u64; 48]) -> Reply
     ensures { Replied (inverse_text (inverse_by fields.now room.old))
-        room.old result none room.new }
+        room.old result None room.new }
 {
     let result = galemosu_inverse(room, fields[0] as usize, fields[1] as usize);
     reply_by(result, 0, 0, [0; 12])
 }
 
 // The six heights.
-fn heights_in(fields: &[u64]) -> [u32; 6]
-    requires { ShortHeights fields.now × (length fields.now ≡ 48) }
+fn heights_in(fields: &[u64; 48]) -> [u32; 6]
+    requires { ShortHeights fields.now }
     ensures { result ≡ allowed_by fields.now }
 {
     [
@@ -215,11 +196,11 @@ fn reply_guarded(res: u32, answer: &[u64; 13]) -> Reply
     reply_by(res, answer[0], 12, numbers)
 }
 
-fn call_guarded(room: &mut [i16], fields: &[u64]) -> Reply
+fn call_guarded(room: &mut [i16], fields: &[u64; 48]) -> Reply
     requires { Short fields.now 1 × Short fields.now 2 × Short fields.now 4 × Short fields.now 6
-        × Short fields.now 8 × ShortHeights fields.now × (length fields.now ≡ 48) }
+        × Short fields.now 8 × ShortHeights fields.now }
     ensures { Replied (guarded_text (guarded_by fields.now room.old))
-        room.old result none room.new }
+        room.old result None room.new }
 {
     let qp = qps_of(fields);
     let lambda = lambdas_of(fields);
@@ -244,17 +225,13 @@ fn call_guarded(room: &mut [i16], fields: &[u64]) -> Reply
 fn parted(room: &[i16], wanted: usize) -> usize
     ensures { Parted room.now wanted result }
 {
-    if wanted < room.len() {
-        wanted
-    } else {
-        room.len()
-    }
+    wanted.min(room.len())
 }
 
-fn call_measure(room: &[i16], fields: &[u64]) -> Reply
-    requires { Short fields.now 1 × Short fields.now 2 × (length fields.now ≡ 48) }
+fn call_measure(room: &[i16], fields: &[u64; 48]) -> Reply
+    requires { Short fields.now 1 × Short fields.now 2 }
     ensures { Replied (measure_text (measure_by fields.now room.now) room.now)
-        room.now result none room.now }
+        room.now result None room.now }
 {
     let n = parted(room, fields[3] as usize);
     let mut answer = [0u64; 2];
@@ -274,28 +251,26 @@ fn call_measure(room: &[i16], fields: &[u64]) -> Reply
     )
 }
 
-fn call_write(room: &[i16], list: &mut [u32], fields: &[u64]) -> Reply
-    requires { length fields.now ≡ 48 }
+fn call_write(room: &[i16], list: &mut [u32], fields: &[u64; 48]) -> Reply
     ensures { Replied (write_text (write_by fields.now list.old room.now))
-        room.now result (some list.new) room.now }
+        room.now result (Some list.new) room.now }
 {
     let mut answer = [0u64; 1];
     let result = galemosu_write_symbols(room, fields[0] as usize, list, &mut answer);
     reply_by(result, 0, 1, [answer[0], 0, 0, 0, 0, 0, 0, 0, 0, 0, 0, 0])
 }
 
-fn call_read(room: &mut [i16], list: &[u32], fields: &[u64]) -> Reply
-    requires { length fields.now ≡ 48 }
+fn call_read(room: &mut [i16], list: &[u32], fields: &[u64; 48]) -> Reply
     ensures { Replied (read_text (read_by fields.now list.now room.old))
-        room.old result (some list.now) room.new }
+        room.old result (Some list.now) room.new }
 {
     let result = galemosu_read_symbols(list, room, fields[0] as usize);
     reply_by(result, 0, 0, [0; 12])
 }
 
 // The fields are those of the verb, in their order, each within its limit. The list is used where the verb has one.
-pub fn call(verb: Verb, room: &mut [i16], list: &mut [u32], fields: &[u64]) -> Reply
-    requires { Limited (kinds_of verb) fields.now × (length fields.now ≡ 48) }
+pub fn call(verb: Verb, room: &mut [i16], list: &mut [u32], fields: &[u64; 48]) -> Reply
+    requires { Limited (kinds_of verb) fields.now }
     ensures { Replied
         (answered verb (take (length (kinds_of verb)) fields.now) list.old room.old)
         room.old result (list_if (has_list verb) list.new) room.new }

@@ -1,7 +1,6 @@
 -- The definition at some whole lines of the verbs whose calls answer a verdict alone, of `guarded`, of `measure` and of
 -- those with a list. The fields of a line differ, so that one taken for the other shows. The answers were worked out by
 -- a program that shares nothing with the definitions.
--- Assumes nothing.
 use mathlib.Core.Path.{◌≡◌, refl}
 use mathlib.Core.List.{List, ◌++◌}
 use Prim.Native.Nat.{ℕ}

@@ -1,2 +1,3 @@
+mod Asking
 mod Examples
 mod Retold

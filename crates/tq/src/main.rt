@@ -5,46 +5,48 @@
 ghost use Rattle.std.specs.Prelude.{◌<◌, length};
 ghost use Rattle.input.specs.Lines.{Within};
 
-use input::{Arrival, Cursor, Line, Tail};
+use input::{Cursor, Line, Tail};
+use std::fmt;
 use std::io;
 use std::io::{Input, Print, Read};
 
-// How it has ended.
+// Why it has ended before the input.
 #[derive(Drop)]
-enum End {
-    Answered,
+enum Failure {
     Unread(io::Error),
     Unwritten(io::Error),
 }
 
-// Writes the answer and a newline.
-fn answer<W: Print>(out: &W, line: &[u8], text: &mut [u8; 65536]) -> io::Result<()> {
-    let n = protocol::answer(line, text);
-    text[n] = b'\n';
-    let whole: &[u8] = text;
-    out.write_all(&whole[..n + 1])
-}
-
-// A line without bytes is malformed, and so is one that was passed over.
-fn answer_too_long<W: Print>(out: &W, text: &mut [u8; 65536]) -> io::Result<()> {
-    answer(out, b"", text)
-}
-
-fn written(put: io::Result<()>) -> End {
-    match put {
-        Ok(()) => End::Answered,
-        Err(why) => End::Unwritten(why),
+impl fmt::Display for Failure {
+    fn fmt<W: fmt::Write>(&self, f: &mut fmt::Formatter<W>) -> fmt::Result {
+        match self {
+            Failure::Unread(why) => write!(f, "standard input: {why}"),
+            Failure::Unwritten(why) => write!(f, "standard output: {why}"),
+        }
     }
 }
 
+// Writes the answer and a newline. A line without bytes is malformed, and so is one that was passed over.
+fn answer<W: Print>(out: &W, line: &[u8], text: &mut [u8; 65536]) -> Result<(), Failure> {
+    let n = protocol::answer(line, text);
+    text[n] = b'\n';
+    let whole: &[u8] = text;
+    out.write_all(&whole[..n + 1]).map_err(Failure::Unwritten)
+}
+
 // What stands behind the last newline.
-fn answer_last<W: Print>(out: &W, buf: &[u8], c: Cursor, text: &mut [u8; 65536]) -> End
+fn answer_last<W: Print>(
+    out: &W,
+    buf: &[u8],
+    c: Cursor,
+    text: &mut [u8; 65536],
+) -> Result<(), Failure>
     requires { Within c buf.now }
 {
-    match input::last(c) {
-        Tail::At { from, end } => written(answer(out, &buf[from..end], text)),
-        Tail::TooLong => written(answer_too_long(out, text)),
-        Tail::Nothing => End::Answered,
+    match c.last() {
+        Tail::At { from, end } => answer(out, &buf[from..end], text),
+        Tail::TooLong => answer(out, b"", text),
+        Tail::Nothing => Ok(()),
     }
 }
 
@@ -54,45 +56,33 @@ fn answer_all<R: Read, W: Print>(
     out: &W,
     buf: &mut [u8],
     text: &mut [u8; 65536],
-) -> End
+) -> Result<(), Failure>
     requires { 0 < length buf.old }
 {
-    let mut c = input::start();
+    let mut c = Cursor::start();
     for _ in 0..u64::MAX {
-        match input::next(buf, c) {
+        match c.next_line(buf) {
             Line::At { from, end, rest } => {
-                if let Err(why) = answer(out, &buf[from..end], text) {
-                    return End::Unwritten(why);
-                }
+                answer(out, &buf[from..end], text)?;
                 c = rest;
             }
             Line::TooLong(rest) => {
-                if let Err(why) = answer_too_long(out, text) {
-                    return End::Unwritten(why);
-                }
+                answer(out, b"", text)?;
                 c = rest;
             }
-            Line::More(rest) => match input::read(reader, buf, rest) {
-                Arrival::Came(more) => c = more,
-                Arrival::Ended => return answer_last(out, buf, rest, text),
-                Arrival::Failed(why) => return End::Unread(why),
+            Line::More(rest) => match rest.read(reader, buf).map_err(Failure::Unread)? {
+                Some(more) => c = more,
+                None => return answer_last(out, buf, rest, text),
             },
         }
     }
-    End::Answered
+    Ok(())
 }
 
 fn main(rt: HostRuntime) {
     let mut buf = [0u8; 65536];
     let mut text = [0u8; 65536];
-    let err = rt.stderr();
-    match answer_all(&mut rt.reader(), &rt.stdout(), &mut buf, &mut text) {
-        End::Answered => {}
-        End::Unread(why) => {
-            let _ = err.println(format_args!("tq: standard input: {why}"));
-        }
-        End::Unwritten(why) => {
-            let _ = err.println(format_args!("tq: standard output: {why}"));
-        }
+    if let Err(why) = answer_all(&mut rt.reader(), &rt.stdout(), &mut buf, &mut text) {
+        let _ = rt.stderr().println(format_args!("tq: {why}"));
     }
 }

@@ -1,7 +1,7 @@
 -- What a call made for a request asks of the fields, and what it leaves: a reply, a list, if it has one, and a buffer,
 -- whose text is the request's answer.
 use Rattle.std.specs.Prelude.{◌≡◌, true, false, cond, List, ◌∷◌, ℕ, ◌≤◌, eqb, ℤ, length, get_or, take, drop, replicate}
-use Rattle.std.proofs.Math.Option.{Option}
+use Rattle.std.specs.Prelude.{Option}
 use Rattle.replies.specs.declared.Reply.{Reply}
 use Rattle.replies.specs.Reply.{reply_text}
 
