@@ -1,5 +1,5 @@
 -- Magnitudes put back once more: where fewer were put back before, it is as if only these were. Each is 0, m or m - 1
--- still, so that the block can be priced. And what is known of a list holds of its front. Assumes nothing.
+-- still, so that the block can be priced. And what is known of a list holds of its front.
 use mathlib.Core.Path.{◌≡◌, refl, sym, ap, subst, ◌∙◌}
 use mathlib.Core.Logic.{inl, inr, ⊎_elim}
 use mathlib.Core.List.{List, [], ◌∷◌, ◌++◌, map}
@@ -8,7 +8,7 @@ use native.Mathlib.Nat.{not-suc-le-zero, le_of_suc-le-suc}
 use native.Mathlib.Omega.{arith}
 use lib.ListN.{length, get_or, take, drop, length-map, get_or-eq_default}
 use lib.Seq.{get_or-take, length-take-le}
-use lib.IntN.{ℤ}
+use Rattle.std.proofs.lemmas.List.{take-map}
 use Rattle.integers.proofs.Order.{below_or_not}
 use Rattle.integers.proofs.Lists.{map_at}
 use Rattle.price.specs.Rule.{Allowed}
@@ -17,8 +17,7 @@ use Rattle.weights.specs.declared.prices.Prices.{Prices}
 use Rattle.finished.specs.Inner.Finished.{Priceable}
 use Rattle.guarding.specs.Block.{put_back}
 use Rattle.guarding.proofs.Candidates.{put_back_length, put_back_before, put_back_behind}
-use Rattle.trial.specs.declared.Terms.{Terms}
-use Rattle.trial.specs.Inner.Trial.{top_by, Triable}
+use Rattle.trial.specs.Inner.Trial.{top_by}
 
 pub put_back_again : (p h : ℕ) (ms rs : List ℕ) → length ms ≡ length rs → h ≤ p
     → put_back p (put_back h ms rs) rs ≡ put_back p ms rs
@@ -31,15 +30,10 @@ put_back_again (suc p) (suc h) (m ∷ ms) [] e l = absurd (let no : ⊥ = omega 
 put_back_again (suc p) (suc h) (m ∷ ms) (r ∷ rs) e l =
     ap (λ (x : List ℕ). r ∷ x) (put_back_again p h ms rs (omega arith) (le_of_suc-le-suc l))
 
-take_map : (f : ℕ → ℕ) (p : ℕ) (l : List ℕ) → take p (map f l) ≡ map f (take p l)
-take_map f zero l = refl
-take_map f (suc p) [] = refl
-take_map f (suc p) (x ∷ xs) = ap (λ (y : List ℕ). f x ∷ y) (take_map f p xs)
-
 -- the front of a list, put back in its place
 pub front_put_back : (f : ℕ → ℕ) (p : ℕ) (ms cs : List ℕ) → map f (take p cs) ++ drop p ms ≡ put_back p ms (map f cs)
 unfolding put_back
-front_put_back f p ms cs = ap (λ (x : List ℕ). x ++ drop p ms) (sym (take_map f p cs))
+front_put_back f p ms cs = ap (λ (x : List ℕ). x ++ drop p ms) (sym (take-map f p cs))
 
 pub of_front : (P : ℕ → Type 0) (p : ℕ) (l : List ℕ) → p ≤ length l → ((k : ℕ) → P (get_or l k 0)) → (k : ℕ)
     → P (get_or (take p l) k 0)
@@ -56,8 +50,6 @@ pub put_back_priceable : (p : Prices) (g : Scale) (cs ms : List ℕ) (n : ℕ) �
     → Priceable p g (put_back n ms (map (top_by g) cs)) cs
 put_back_priceable p g cs ms n h =
     record {
-      modest = h.modest;
-      sound = h.sound;
       long = put_back_length n ms (map (top_by g) cs) same ∙ length-map cs (top_by g);
       few = h.few;
       fine = h.fine;
@@ -74,23 +66,3 @@ put_back_priceable p g cs ms n h =
   where
     same : length ms ≡ length (map (top_by g) cs)
     same = h.long ∙ sym (length-map cs (top_by g))
-
--- and tried
-pub put_back_triable : (t : Terms) (r B : List ℤ) (held cs ms : List ℕ) (x y z : ℕ) → Triable t r B held cs ms x y z
-    → (n : ℕ) (l : List ℕ) → l ≡ put_back n ms (map (top_by t.scale) cs) → (x' y' z' : ℕ) → x' ≡ x → y' ≡ y → z' ≡ z
-    → Triable t r B held cs l x' y' z'
-put_back_triable t r B held cs ms x y z w n l e x' y' z' ex ey ez =
-    record {
-      low = w.low;
-      high = w.high;
-      qp = w.qp;
-      scanned = w.scanned;
-      samples = w.samples;
-      block = w.block;
-      places = w.places;
-      priceable = subst (λ (m : List ℕ). Priceable t.prices t.scale m cs) (sym e)
-          (put_back_priceable t.prices t.scale cs ms n w.priceable);
-      level_room = ex ∙ w.level_room;
-      shown_room = ey ∙ w.shown_room;
-      row_room = ez ∙ w.row_room;
-    }

@@ -3,39 +3,34 @@
 #![tactic(auto)]
 
 ghost use Rattle.std.specs.Prelude.{length};
-ghost use Rattle.attempts.specs.Inner.Candidates.{Repairable, RepairedAs};
+ghost use Rattle.finished.specs.Inner.Finished.{Priceable};
+ghost use Rattle.trial.specs.Inner.Whole.{Rooms};
+ghost use Rattle.attempts.specs.Inner.Candidates.{RepairedAs};
 
 use guarding::Guarded;
 use refusals::{Component, Refusal, Refused};
-use trial::{Terms, put_back, try_one};
+use trial::{Block, put_back};
 
 // The first 1, 2, 4, .. places put back, up to all. What is put back stays so.
 pub fn try_all(
-    levels: &mut [i16],
-    residuals: &[i16],
-    shown: &mut [i16],
-    coefs: &[i16],
-    scan: &[u16],
-    rows: &mut [u16],
-    ms: &mut [u16],
-    places: &[u16],
-    t: Terms,
+    block: Block,
     component: Component,
+    ms: &mut [u16],
+    levels: &mut [i16],
+    shown: &mut [i16],
+    rows: &mut [u16],
 ) -> Result<Guarded, Refused>
-    requires { Repairable t residuals.now coefs.now scan.now places.now ms.old (length levels.old)
-        (length shown.old) (length rows.old) }
-    ensures { RepairedAs t component residuals.now coefs.now places.now
-        ms.old levels.new result }
+    requires priceable { Priceable block.terms.weights.prices block.terms.weights.scale ms.old block.places.now }
+    requires rooms { Rooms (length block.residuals.now) (length levels.old) (length shown.old) (length rows.old) }
+    ensures { RepairedAs block.entry.terms component block.entry.residuals.now block.entry.coefs.now
+        block.entry.places.now ms.old levels.new result }
 {
-    let n = places.len();
-    let mut p: usize = 1;
-    while p <= n {
-        put_back(&mut ms[..p], &places[..p], t.scale);
-        let fitting = try_one(levels, residuals, shown, coefs, scan, rows, ms, places, t);
-        if let Some(coded) = fitting {
+    for i in 0..2 * block.terms.log2 + 1 {
+        let p: usize = 1 << i;
+        put_back(&mut ms[..p], &block.places[..p], block.terms.weights.scale);
+        if let Some(coded) = block.try_one(ms, levels, shown, rows) {
             return Ok(coded);
         }
-        p = p * 2;
     }
     Err(Refused {
         why: Refusal::Height,

@@ -4,96 +4,99 @@
 
 ghost use Rattle.std.specs.Prelude.{◌≡◌, map, ℕ, ◌≤◌, length, get_or};
 ghost use Rattle.price.specs.Price.{nonzeros};
-ghost use Rattle.scaling.specs.Inner.Scale.{Sound};
-ghost use Rattle.trial.specs.Inner.Trial.{top_by, levels_by, Writable, Triable, TriedAs};
+ghost use Rattle.finished.specs.Inner.Finished.{Priceable};
+ghost use Rattle.trial.specs.Inner.Whole.{Whole, Rooms};
+ghost use Rattle.trial.specs.Inner.Trial.{top_by, levels_by, TriedAs};
 
 use finished::price_of;
 use guarding::Guarded;
 use heights::Heights;
-use measure::{copy, look};
+use measure::look;
 use order::spread;
-use refusals::side;
-use scaling::scale::{Scale, rounded};
+use scaling::scale::Scale;
+use scan::Scan;
 use signs::put_signs;
-use weights::prices::Prices;
+use weights::Weights;
 
 // A price from here on, 2^62, is not worked out further: it fits nowhere.
 const DEAR: u64 = 4611686018427387904;
 
-// What the candidates of a block are tried by: its prices and its scale, log2 of its side, its QP, and its heights.
+// What the candidates of a block are tried by: what its places are weighed by, log2 of its side, its QP, and its
+// heights.
 #[derive(Clone, Copy)]
 pub struct Terms {
-    pub prices: Prices,
-    pub scale: Scale,
+    pub weights: Weights,
     pub log2: usize,
     pub qp: u32,
     pub heights: Heights,
 }
 
+// The block that they are candidates of: its residuals and their coefficients, by rows; its scan, and the |c| along it.
+#[derive(Clone, Copy)]
+pub struct Block<'a> {
+    pub terms: Terms,
+    pub residuals: &'a [i16],
+    pub coefs: &'a [i16],
+    pub scan: Scan<'a>,
+    pub places: &'a [u16],
+    pub ghost whole: { Whole terms.log2 terms.qp scan.w scan.h residuals.now coefs.now places.now },
+}
+
 // m of each |c|.
-pub fn put_back(ms: &mut [u16], places: &[u16], g: Scale)
-    requires { (length ms.old ≡ length places.now) × (length places.now ≤ 1024) × Sound g
-        × ((k : ℕ) → get_or places.now k 0 ≤ 32768) × ((k : ℕ) → top_by g (get_or places.now k 0) ≤ 32767) }
-    ensures { ms.new ≡ map (top_by g) places.now }
+pub fn put_back(ms: &mut [u16], places: &[u16], scale: Scale)
+    requires { (length ms.old ≡ length places.now) × ((k : ℕ) → get_or places.now k 0 ≤ 32768)
+        × ((k : ℕ) → top_by scale (get_or places.now k 0) ≤ 32767) }
+    ensures { ms.new ≡ map (top_by scale) places.now }
 {
-    let n = ms.len();
-    let mut i = 0;
-    while i < n {
-        ms[i] = rounded(g, places[i] as u32) as u16;
-        i += 1;
+    for (i, c) in places.iter().enumerate() {
+        ms[i] = scale.rounded(u32::from(*c)) as u16;
     }
 }
 
-// The levels of magnitudes in scan order, by rows; how many are not 0.
-fn write_levels(
-    levels: &mut [i16],
-    coefs: &[i16],
-    scan: &[u16],
-    rows: &mut [u16],
-    ms: &[u16],
-    log2: usize,
-) -> u32
-    requires { Writable log2 coefs.now scan.now ms.now (length levels.old) (length rows.old) }
-    ensures { (levels.new ≡ levels_by log2 coefs.now ms.now)
-        × (result ≡ nonzeros ms.now) }
-{
-    let a = side(log2);
-    spread(ms, scan, a, a, rows);
-    copy(coefs, levels);
-    put_signs(levels, rows)
-}
+impl<'a> Block<'a> {
+    // The levels of magnitudes in scan order, by rows; how many are not 0.
+    fn write_levels(self, ms: &[u16], levels: &mut [i16], rows: &mut [u16]) -> u32
+        requires magnitudes { (length ms.now ≡ length self.residuals.now)
+            × ((k : ℕ) → get_or ms.now k 0 ≤ 32767) }
+        requires rooms { (length levels.old ≡ length self.residuals.now)
+            × (length rows.old ≡ length self.residuals.now) }
+        ensures { (levels.new ≡ levels_by self.entry.terms.log2 self.entry.coefs.now ms.now)
+            × (result ≡ nonzeros ms.now) }
+    {
+        spread(ms, self.scan, rows);
+        levels.copy_from_slice(self.coefs);
+        put_signs(levels, rows)
+    }
 
-// What a candidate comes to where it fits. Its levels are left in either case.
-pub fn try_one(
-    levels: &mut [i16],
-    residuals: &[i16],
-    shown: &mut [i16],
-    coefs: &[i16],
-    scan: &[u16],
-    rows: &mut [u16],
-    ms: &[u16],
-    places: &[u16],
-    t: Terms,
-) -> Option<Guarded>
-    requires { Triable t residuals.now coefs.now scan.now places.now ms.now (length levels.old)
-        (length shown.old) (length rows.old) }
-    ensures { TriedAs t residuals.now coefs.now places.now ms.now
-        levels.new result }
-{
-    let price = price_of(ms, places, t.prices, t.scale);
-    if DEAR <= price {
-        return None;
+    // What a candidate comes to, where it fits. Its levels are left in either case.
+    pub fn try_one(
+        self,
+        ms: &[u16],
+        levels: &mut [i16],
+        shown: &mut [i16],
+        rows: &mut [u16],
+    ) -> Option<Guarded>
+        requires priceable { Priceable self.terms.weights.prices self.terms.weights.scale ms.now self.places.now }
+        requires rooms { Rooms (length self.residuals.now) (length levels.old) (length shown.old) (length rows.old) }
+        ensures { TriedAs self.entry.terms self.entry.residuals.now self.entry.coefs.now self.entry.places.now
+            ms.now levels.new result }
+    {
+        let terms = self.terms;
+        let price = price_of(ms, self.places, terms.weights);
+        if DEAR <= price {
+            return None;
+        }
+        let count = self.write_levels(ms, levels, rows);
+        let off = look(self.residuals, levels, shown, terms.log2, terms.qp);
+        let most = terms.heights;
+        if most.darker < off.darker || most.lighter < off.lighter {
+            return None;
+        }
+        Some(Guarded {
+            count,
+            price,
+            darker: off.darker,
+            lighter: off.lighter,
+        })
     }
-    let count = write_levels(levels, coefs, scan, rows, ms, t.log2);
-    let off = look(residuals, levels, shown, t.log2, t.qp);
-    let most = t.heights;
-    if most.darker < off.darker || most.lighter < off.lighter {
-        return None;
-    }
-    Some(Guarded {
-        count,
-        price,
-        darker: off.darker,
-        lighter: off.lighter,
-    })
 }

@@ -1,6 +1,6 @@
 -- The candidates behind the block that the mode writes, in what code has of it: which is the first that fits, what is
 -- answered and what is left.
-use Rattle.std.specs.Prelude.{◌≡◌, cond, List, [], map, ℕ, suc, ◌+◌, ◌^◌, ◌≤◌, get_or, ℤ, Result}
+use Rattle.std.specs.Prelude.{◌≡◌, cond, List, [], map, ℕ, suc, ◌+◌, ◌^◌, ℤ, Result}
 use Rattle.integers.specs.Tests.{some, listed}
 use Rattle.refusals.specs.declared.Component.{Component}
 use Rattle.refusals.specs.declared.Refusal.TheVariants.{Height}
@@ -11,12 +11,12 @@ use Rattle.guarding.specs.declared.Guarded.{Guarded}
 use Rattle.guarding.specs.Block.{put_back, first_where}
 use Rattle.guarding.specs.Inner.Held.{guard_outcome}
 use Rattle.trial.specs.declared.Terms.{Terms}
-use Rattle.trial.specs.Inner.Trial.{top_by, levels_by, fits_by, report_by, Triable}
+use Rattle.trial.specs.Inner.Trial.{top_by, levels_by, fits_by, report_by}
 
 -- of magnitudes ms, by the |c| in scan order: the first 2^i put back
 unfoldable pub repaired_by : Terms → (cs ms : List ℕ) → ℕ → List ℕ
 unfolding put_back
-repaired_by t cs ms i = put_back (2 ^ i) ms (map (top_by t.scale) cs)
+repaired_by t cs ms i = put_back (2 ^ i) ms (map (top_by t.weights.scale) cs)
 
 unfoldable pub later_by : Terms → (cs ms : List ℕ) → List (List ℕ)
 unfolding listed repaired_by
@@ -31,11 +31,6 @@ unfolding some fits_by later_by report_by first_by
 answer_by t k r B cs ms =
     let a = report_by t r B cs (first_by t r B cs ms) in
     cond (some (fits_by t r B cs) (later_by t cs ms)) (accepted a) (refused (number_of Height) (component_of k))
-
--- each |c| is a 16-bit magnitude
-pub record Repairable (t : Terms) (r B : List ℤ) (held cs ms : List ℕ) (levels shown rows : ℕ) : Type 0 where
-  pub triable : Triable t r B held cs ms levels shown rows
-  pub small : (k : ℕ) → get_or cs k 0 ≤ 32768
 
 -- the answer, and the levels where it is no refusal
 pub record RepairedAs (t : Terms) (k : Component) (r B : List ℤ) (cs ms : List ℕ) (after : List ℤ) (o : Result Guarded Refused) :

@@ -1,8 +1,7 @@
 -- A candidate by what code has of it: the coefficients of a square block by rows, their |c| in scan order, the prices
 -- and the scale. What it costs, what it leaves, how far it is off and whether it fits are those of specs/Block.antt of
 -- `guarding`, in these numbers.
-use Rattle.std.specs.Prelude.{◌≡◌, Bool, true, cond, ◌&&◌, List, ℕ, ◌*◌, ◌^◌, ◌≤◌, ltb, length, get_or, ℤ, Option, Some, None}
-use Rattle.refusals.specs.Sides.{most_log2}
+use Rattle.std.specs.Prelude.{◌≡◌, Bool, true, cond, ◌&&◌, List, ℕ, ◌*◌, ◌^◌, ltb, ℤ, Option, Some, None}
 use Rattle.tables.specs.Scales.{back}
 use Rattle.scan.specs.Scan.{scan}
 use Rattle.scan.specs.Order.{in_order, laid}
@@ -10,9 +9,8 @@ use Rattle.price.specs.Level.{nearest}
 use Rattle.price.specs.Price.{nonzeros, price}
 use Rattle.scaling.specs.declared.scale.Scale.{Scale}
 use Rattle.weights.specs.Inner.Prices.{rule_by}
-use Rattle.weights.specs.Inner.Places.{Scanned}
 use Rattle.coding.specs.Block.{signs}
-use Rattle.finished.specs.Inner.Finished.{places_of, Priceable}
+use Rattle.finished.specs.Inner.Finished.{places_of}
 use Rattle.heights.specs.declared.Extremes.{Extremes}
 use Rattle.heights.specs.Extremes.{extremes, within}
 use Rattle.guarding.specs.declared.Guarded.{Guarded}
@@ -30,7 +28,7 @@ levels_by l B ms = laid (scan (2 ^ l) (2 ^ l)) (signs (in_order (2 ^ l) (2 ^ l) 
 -- ---- of magnitudes ms, by the |c| in scan order, the residuals and the coefficients
 unfoldable pub price_by : Terms → (cs ms : List ℕ) → ℕ
 unfolding price rule_by
-price_by t cs ms = price (rule_by t.prices t.scale) ms (places_of t.scale cs)
+price_by t cs ms = price (rule_by t.weights.prices t.weights.scale) ms (places_of t.weights.scale cs)
 
 unfoldable pub extremes_by : Terms → (r B : List ℤ) (ms : List ℕ) → Extremes
 unfolding extremes levels_by
@@ -45,30 +43,6 @@ unfolding nonzeros price_by extremes_by
 report_by t r B cs ms =
     let e = extremes_by t r B ms in
     record { count = nonzeros ms; price = price_by t cs ms; darker = e.darker; lighter = e.lighter }
-
--- ---- what is asked of a candidate and of the rooms
-pub record Writable (l : ℕ) (B : List ℤ) (held ms : List ℕ) (levels rows : ℕ) : Type 0 where
-  pub low : 1 ≤ l
-  pub high : l ≤ most_log2
-  pub scanned : Scanned (2 ^ l) (2 ^ l) held
-  pub block : length B ≡ 2 ^ l * 2 ^ l
-  pub all : length ms ≡ 2 ^ l * 2 ^ l
-  pub small : (k : ℕ) → get_or ms k 0 ≤ 32767
-  pub level_room : levels ≡ 2 ^ l * 2 ^ l
-  pub row_room : rows ≡ 2 ^ l * 2 ^ l
-
-pub record Triable (t : Terms) (r B : List ℤ) (held cs ms : List ℕ) (levels shown rows : ℕ) : Type 0 where
-  pub low : 1 ≤ t.log2
-  pub high : t.log2 ≤ most_log2
-  pub qp : t.qp ≤ 63
-  pub scanned : Scanned (2 ^ t.log2) (2 ^ t.log2) held
-  pub samples : length r ≡ 2 ^ t.log2 * 2 ^ t.log2
-  pub block : length B ≡ 2 ^ t.log2 * 2 ^ t.log2
-  pub places : length cs ≡ 2 ^ t.log2 * 2 ^ t.log2
-  pub priceable : Priceable t.prices t.scale ms cs
-  pub level_room : levels ≡ 2 ^ t.log2 * 2 ^ t.log2
-  pub shown_room : shown ≡ 2 ^ t.log2 * 2 ^ t.log2
-  pub row_room : rows ≡ 2 ^ t.log2 * 2 ^ t.log2
 
 -- the answer, and the levels where it fits
 pub record TriedAs (t : Terms) (r B : List ℤ) (cs ms : List ℕ) (after : List ℤ) (o : Option Guarded) : Type 0 where
