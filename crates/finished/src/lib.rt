@@ -104,6 +104,7 @@ fn flags_of(levels: &[u16], n: usize, prices: Prices) -> u64
 }
 
 // levels: the block's magnitudes, cs: the |c| that they stand for, both in scan order.
+// Kept: two slices: each is read off the scan alone, and levels alone are changed and written back (`order`, `trial`).
 pub fn price_of(levels: &[u16], cs: &[u16], weights: Weights) -> u64
     requires { Priceable weights.prices weights.scale levels.now cs.now }
     ensures { result ≡ held (price (rule_by weights.prices weights.scale) levels.now
