@@ -1,5 +1,5 @@
--- The levels that are chosen by what is kept of a block are those of the whole block: what is left out weighs nothing, so
--- that the definition writes the same of either; and with the signs put back they are the block that it leaves.
+-- The levels that are chosen by what is kept of a block are those of the whole block: what is left out weighs nothing,
+-- so that the definition writes the same of either; and with the signs put back they are the block that it leaves.
 use mathlib.Core.Path.{◌≡◌, ap, subst, ◌∙◌}
 use mathlib.Core.List.{List}
 use Prim.Native.Nat.{ℕ, ◌*◌, ◌≤◌, ◌<◌}

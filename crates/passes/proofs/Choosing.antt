@@ -36,10 +36,11 @@ offer_by p g z L (suc zero) h = refl
 offer_by p g z L (suc (suc k)) h =
     let e : suc (suc k) - 1 ≡ suc k = omega arith in
     let q : eqb (suc (suc k)) 1 ≡ false = ne_eqb (suc (suc k)) 1 (λ (x : suc (suc k) ≡ 1). omega (arith, x)) in
-    rw (e, q) (same_offer (cost (rule_by p g) z L) (bare p g L) (head_price p z) (suc k) (suc (suc k)) (cost_by p g z L k)
-    (cost_by p g z L (suc k)))
+    rw (e, q) (same_offer (cost (rule_by p g) z L) (bare p g L) (head_price p z) (suc k) (suc (suc k))
+    (cost_by p g z L k) (cost_by p g z L (suc k)))
 
-cost_is : (p : Prices) (g : Scale) (z : Bool) (L a : ℕ) → 1 ≤ a → cost (rule_by p g) z L a ≡ bare p g L a + head_price p z
+cost_is : (p : Prices) (g : Scale) (z : Bool) (L a : ℕ) → 1 ≤ a
+    → cost (rule_by p g) z L a ≡ bare p g L a + head_price p z
 cost_is p g z L zero o = absurd (omega arith)
 cost_is p g z L (suc a) o = cost_by p g z L a
 

@@ -1,5 +1,5 @@
--- What code meets at a scan place is what is kept there, and the count of what is left falls where something is kept: so
--- the last place is found.
+-- What code meets at a scan place is what is kept there, and the count of what is left falls where something is kept:
+-- so the last place is found.
 use Rattle.std.proofs.Common.{◌≡◌, List, ℕ, ◌+◌, ◌-◌, ◌*◌, ◌≤◌, ◌<◌, get_or, sym, ap, ◌∙◌, arith}
 use Rattle.scan.specs.Scan.{scan_at}
 use Rattle.price.proofs.Counting.{ones, one_more, none_more}
@@ -45,4 +45,5 @@ module _ (k : Kept) where
       as_many e = omega (arith, rest, next, none_more (kept_at k.scan.w k.scan.h kept n) (sym is ∙ e))
 
     pub ends : n ≤ area → left ≡ 0 → Ends k n
-    ends le none = record { within = le; tail = none_kept k.scan.w k.scan.h kept held k.scan.scanned n (sym rest ∙ none) }
+    ends le none =
+        record { within = le; tail = none_kept k.scan.w k.scan.h kept held k.scan.scanned n (sym rest ∙ none) }

@@ -11,7 +11,8 @@ use lib.ListN.{length, get_or}
 use borrow.Author.Tests.{ltb-true, ltb-false, lt-ltb, le-ltb}
 use Rattle.price.specs.Rule.{cost}
 use Rattle.price.specs.Price.{uncoded}
-use Rattle.price.specs.Inner.Search.{Least, none, some, plus, under, lesser, with_zero, taken_by, least_by, taken, ahead}
+use Rattle.price.specs.Inner.Search.{Least, none, some, plus, under, lesser, with_zero, taken_by, least_by}
+use Rattle.price.specs.Inner.Search.{taken, ahead}
 use Rattle.price.specs.Inner.Search as of-price
 use Rattle.price.proofs.Search.{quiet_ahead}
 use Rattle.scaling.specs.declared.scale.Scale.{Scale}

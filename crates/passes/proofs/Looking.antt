@@ -41,7 +41,8 @@ put n P l v h here behind j le =
     ⊎_elim
     (λ (e : n ≡ j). subst (λ (j : ℕ). P j (get_or (set l n v) j nothing)) e
     (subst (P n) (sym (get_or-set_same l n v nothing h)) here))
-    (λ (m : n < j). subst (P j) (sym (get_or-set_other l n j v nothing (λ e. let z : ⊥ = omega arith in z))) (behind j m))
+    (λ (m : n < j).
+    subst (P j) (sym (get_or-set_other l n j v nothing (λ e. let z : ⊥ = omega arith in z))) (behind j m))
     (eq-or-lt_of_le le)
 
 -- at n code holds what is known from place n on, and what each place from there to `end` takes

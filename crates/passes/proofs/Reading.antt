@@ -20,7 +20,7 @@ use Rattle.weights.specs.Inner.Prices.{rule_by}
 use Rattle.weights.specs.Inner.Places.{kept_at}
 use Rattle.weights.specs.Inner.Chosen.{rule_of, places_of, Blank}
 use Rattle.weights.proofs.Places.{places_count, place_at, nothing_there, some_kept}
-use Rattle.weights.proofs.Filling.{Filled, filled_none, filled_next, filled_all}
+use Rattle.weights.proofs.Filling.{Filled, filled_none, filled_zero, filled_next, filled_all}
 use Rattle.ahead.specs.declared.Taken.{Taken}
 use Rattle.passes.specs.Inner.Passes.{Ends, Takes, taken_after, ReadOff}
 
@@ -37,9 +37,11 @@ quiet_taken r z p ps t e = rw e
 
 -- what follows a place that takes a, where going on is worth it by `on`
 abbrev following : Rule → List ℕ → (a : ℕ) → (on : Bool) → List ℕ
-following r ps a on = cond (is_zero a) (read_off r (is_zero a) ps) (cond on (read_off r (is_zero a) ps) (empty_block ps))
+following r ps a on =
+    cond (is_zero a) (read_off r (is_zero a) ps) (cond on (read_off r (is_zero a) ps) (empty_block ps))
 
-quiet_following : (r : Rule) (ps : List ℕ) (k : ℕ) → ((z : Bool) → get_or (read_off r z ps) k 0 ≡ 0) → (a : ℕ) (on : Bool)
+quiet_following : (r : Rule) (ps : List ℕ) (k : ℕ) → ((z : Bool) → get_or (read_off r z ps) k 0 ≡ 0) → (a : ℕ)
+    (on : Bool)
     → get_or (following r ps a on) k 0 ≡ 0
 quiet_following r ps k h zero on = h true
 quiet_following r ps k h (suc a) true = h false
@@ -71,7 +73,8 @@ module _ (r : Rule) (z : Bool) (ps ls : List ℕ) (n : ℕ) (h : n < length ps) 
   one_place : (get_or ls n 0 ≡ taken_at r ps n z)
       × (drop (n + 1) ls ≡ following r (drop (suc n) ps) (taken_at r ps n z) (goes_on_at r ps n))
   one_place = (
-    ap (λ (k : ℕ). get_or ls k 0) (omega arith) ∙ sym (get_or-drop n ls 0 0) ∙ ap (λ (l : List ℕ). get_or l 0 0) from_there,
+    ap (λ (k : ℕ). get_or ls k 0) (omega arith) ∙ sym (get_or-drop n ls 0 0)
+        ∙ ap (λ (l : List ℕ). get_or l 0 0) from_there,
     sym (drop-drop 1 n ls) ∙ ap (drop 1) from_there,
   )
 
@@ -141,8 +144,8 @@ module _ (given : Kept) where
           levels = filled_all width height levels ls n (λ k l. tail k (omega arith)) i.standing;
         }
 
-    module _ (levels : List ℕ) (prev n : ℕ) (i : Reading levels prev n) (lt : n < end) (t : Taken) (takes : Takes given n t)
-        (a : ℕ) (chose : a ≡ taken_after t prev) (after : List ℕ) (puts : after ≡ set levels (scan_at width height n) a) where
+    module _ (levels : List ℕ) (prev n : ℕ) (i : Reading levels prev n) (lt : n < end) (t : Taken)
+        (takes : Takes given n t) (a : ℕ) (chose : a ≡ taken_after t prev) where
       inside : n < width * height
       inside = omega (arith, ends.within)
 
@@ -168,35 +171,39 @@ module _ (given : Kept) where
           let s = one_place r (is_zero prev) ps ls n (omega (arith, inside, places_many)) i.going in
           (s.0 ∙ sym is_taken, rw is_taken s.1)
 
-      room : length after ≡ width * height
-      room = ap length puts ∙ length-set levels (scan_at width height n) a ∙ i.room
+      further : (1 ≤ a → t.goes_on ≡ true) → drop (n + 1) ls ≡ read_off r (is_zero a) (drop (n + 1) ps)
+      further on =
+          goes r (drop (suc n) ps) (drop (n + 1) ls) a (goes_on_at r ps n) place.1
+          (λ some. sym (takes.on (kept_there some)) ∙ on some)
+          ∙ ap (λ (k : ℕ). read_off r (is_zero a) (drop k ps)) (sym (add-one n))
 
-      standing : Filled width height (n + 1) after ls
-      standing =
-          rw puts
-          (filled_next width height levels ls n inside _ given.scan.scanned i.room a place.0 i.standing)
-
-      pub goes_further : (1 ≤ a → t.goes_on ≡ true) → Reading after a (n + 1)
-      goes_further on =
+      -- a 0 stands there already
+      pub zero_taken : a ≡ 0 → Reading levels a (n + 1)
+      zero_taken e =
           record {
-            room = room;
-            standing = standing;
-            going =
-                goes r (drop (suc n) ps) (drop (n + 1) ls) a (goes_on_at r ps n) place.1
-                (λ some. sym (takes.on (kept_there some)) ∙ on some)
-                ∙ ap (λ (k : ℕ). read_off r (is_zero a) (drop k ps)) (sym (add-one n));
+            room = i.room;
+            standing = filled_zero width height levels ls n inside (place.0 ∙ e) i.standing;
+            going = further (λ some. absurd (omega arith));
           }
 
-      pub stops : 1 ≤ a → t.goes_on ≡ false → ReadOff given after
-      stops some off =
-          record {
-            room = room;
-            levels = filled_all width height after ls (n + 1) behind standing;
-          }
-        where
-          behind : (k : ℕ) → n + 1 ≤ k → get_or ls k 0 ≡ 0
-          behind k h =
-              ap (λ (j : ℕ). get_or ls j 0) (let s : k ≡ n + 1 + (k - (n + 1)) = omega arith in s)
-              ∙ sym (get_or-drop (n + 1) ls (k - (n + 1)) 0)
-              ∙ ends_there r (drop (suc n) ps) (drop (n + 1) ls) a (goes_on_at r ps n) place.1 some
-              (sym (takes.on (kept_there some)) ∙ off) (k - (n + 1))
+      module _ (some : a ≡ 0 → ⊥) (after : List ℕ) (puts : after ≡ set levels (scan_at width height n) a) where
+        room : length after ≡ width * height
+        room = ap length puts ∙ length-set levels (scan_at width height n) a ∙ i.room
+
+        standing : Filled width height (n + 1) after ls
+        standing =
+            rw puts (filled_next width height levels ls n inside _ given.scan.scanned i.room a place.0 i.standing)
+
+        pub goes_further : t.goes_on ≡ true → Reading after a (n + 1)
+        goes_further on = record { room = room; standing = standing; going = further (λ some. on) }
+
+        pub stops : t.goes_on ≡ false → ReadOff given after
+        stops off =
+            record { room = room; levels = filled_all width height after ls (n + 1) behind standing }
+          where
+            behind : (k : ℕ) → n + 1 ≤ k → get_or ls k 0 ≡ 0
+            behind k h =
+                ap (λ (j : ℕ). get_or ls j 0) (let s : k ≡ n + 1 + (k - (n + 1)) = omega arith in s)
+                ∙ sym (get_or-drop (n + 1) ls (k - (n + 1)) 0)
+                ∙ ends_there r (drop (suc n) ps) (drop (n + 1) ls) a (goes_on_at r ps n) place.1 (some_kept _ some)
+                (sym (takes.on (kept_there (some_kept _ some))) ∙ off) (k - (n + 1))

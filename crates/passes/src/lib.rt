@@ -74,7 +74,7 @@ fn after(taken: Taken, prev: u16) -> u16
     }
 }
 
-// The magnitudes taken, from the first place on until one is the last.
+// The magnitudes taken that are not 0, from the first place on until one is the last.
 pub fn read_off(kept: Kept, end: usize, taken: &[Taken], levels: &mut [u16])
     requires { Ends kept end × (length taken.now ≡ kept.scan.w * kept.scan.h) × Decided kept 0 end taken.now
         × Blank kept levels.old }
@@ -84,9 +84,11 @@ pub fn read_off(kept: Kept, end: usize, taken: &[Taken], levels: &mut [u16])
     for n in 0..end {
         let here = taken[n];
         let a = after(here, prev);
-        put(levels, kept.scan.block_place(scan_place(n)), a);
-        if a != 0 && !here.goes_on {
-            return;
+        if a != 0 {
+            put(levels, kept.scan.block_place(scan_place(n)), a);
+            if !here.goes_on {
+                return;
+            }
         }
         prev = a;
     }

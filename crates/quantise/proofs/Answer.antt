@@ -40,7 +40,8 @@ use Rattle.price.specs.Rows.{rows_of}
 use Rattle.price.proofs.Bounds.{uncoded_over}
 use Rattle.coding.specs.declared.Coding.{Coding}
 use Rattle.coding.specs.Block.{Quant, called, written_in, log2_of, area, scale_here, shift_here, lambda_here}
-use Rattle.coding.specs.Block.{rows_here, rule_of, block_places, scanned, places, is_skipped, largest, magnitudes, signs}
+use Rattle.coding.specs.Block.{rows_here, rule_of, block_places, scanned, places, is_skipped, largest, magnitudes}
+use Rattle.coding.specs.Block.{signs}
 use Rattle.coding.specs.Block.{count_of, price_of, quantised}
 use Rattle.coding.specs.Call.{side_fault, qp_fault, lambda_fault, cost_fault, length_fault, sample_fault, largest_here}
 use Rattle.coding.specs.Call.{level_fault, price_fault, uncoded_here, distortion_fault, quant_faults, quant_verdict}

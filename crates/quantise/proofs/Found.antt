@@ -137,7 +137,8 @@ module _ {B : List ℤ} {t : Costs} {k : Coding} (early : EarlyPassed B t k) {g 
   module _ (walked : is_skipped asked ≡ false) {top : ℕ} (tops : Largest B top) where
     pub sample_said : top ≡ 32768 → Answered (refused 6 (component_of k.component)) B
     unfolding called sample_fault
-    sample_said e = refuses (past_early B t k early (here (sample_here B t k early true (tops.lowest ∙ eq-eqb _ 32768 e))))
+    sample_said e =
+        refuses (past_early B t k early (here (sample_here B t k early true (tops.lowest ∙ eq-eqb _ 32768 e))))
 
     -- the largest coefficient is no -32768
     module _ (ne : top ≡ 32768 → ⊥) where
@@ -198,8 +199,8 @@ module _ {B : List ℤ} {t : Costs} {k : Coding} (early : EarlyPassed B t k) {g 
                 (ap (ltb (2 ^ 60)) d_is ∙ lt-ltb (2 ^ 60) _ (held_beyond _ _ held h)))))
 
             -- ---- nothing is wrong with it
-            module _ (small : d ≤ 2 ^ 60) (on : Contexts) (rows : ContextsOf k.component k.intra_coded on) {costs : Costs}
-                (same : costs ≡ t) {p : Prices} (priced : PricesOf 32768 lambda costs (rows_in on) p) where
+            module _ (small : d ≤ 2 ^ 60) (on : Contexts) (rows : ContextsOf k.component k.intra_coded on)
+                {costs : Costs} (same : costs ≡ t) {p : Prices} (priced : PricesOf 32768 lambda costs (rows_in on) p) where
               lambda_is : lambda ≡ lambda_here asked
               unfolding lambda_here called
               lambda_is = weighed.is

@@ -80,4 +80,5 @@ module _ (B : List ℤ) (t : Costs) (k : Coding) where
             → r ≡ of_whole Length → Answered (quant_outcome (Err r)) B
         unfolding called length_fault
         length_said priced h r is =
-            of_the_whole Length r is (refuses (past_3 (later (cost_test B t k false priced) (here (length_low B t k h)))))
+            of_the_whole Length r is
+            (refuses (past_3 (later (cost_test B t k false priced) (here (length_low B t k h)))))

@@ -1,7 +1,6 @@
 -- What a buffer holds once values were laid at block places: at each place met its value, and elsewhere what it held.
 -- The places of a scan are met once each, and lie inside the block, so that the surplus is not touched; and where it
 -- meets all of them, a block's values in scan order, laid, are the block.
--- Assumes nothing.
 use mathlib.Core.Path.{◌≡◌, refl, sym, ap, ◌∙◌}
 use mathlib.Core.Logic.{◌≢◌}
 use mathlib.Core.List.{List, [], ◌∷◌, ◌++◌}

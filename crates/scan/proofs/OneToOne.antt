@@ -1,7 +1,6 @@
 -- The scan meets each place of the block: a block place lies inside the block, no two scan places have one block place,
 -- and there are as many of the one as of the other. The first two hold for every width and height; the count is
 -- computed.
--- Assumes nothing.
 use mathlib.Core.Path.{◌≡◌, refl, sym, ap, subst, ◌∙◌}
 use mathlib.Core.Logic.{⊎_elim}
 use mathlib.Core.Bool.{Bool, true, false, cond}

@@ -1,7 +1,6 @@
 -- What is added up along the scan does not depend on its order: the scan meets each place of the block, and each once.
 -- Whatever the addition is, a sum over the block in scan order is the sum over the block by rows; largest numbers and
 -- tests are such sums.
--- Assumes nothing.
 use mathlib.Core.Path.{◌≡◌, sym, ap, ◌∙◌}
 use mathlib.Core.List.{List, map}
 use Prim.Native.Nat.{ℕ, ◌*◌, ◌<◌, ◌≤◌}

@@ -2,7 +2,7 @@
 // the empty one. Its block and its price are the definition's (specs/Cheapest.antt of `price`).
 #![tactic(auto)]
 
-ghost use Rattle.std.specs.Prelude.{◌≡◌, ◌*◌, length};
+ghost use Rattle.std.specs.Prelude.{◌≡◌, ◌≤◌, ◌*◌, length};
 ghost use Rattle.price.specs.Cheapest.{cheapest};
 ghost use Rattle.weights.specs.Inner.Chosen.{Blank, ChosenBy};
 
@@ -27,11 +27,23 @@ fn find_in(kept: Kept, levels: &mut [u16], taken: &mut [Taken]) -> u64
     empty
 }
 
+// In a room of N places, no less than the block has: to clear it takes time.
+fn find_in_room<const N: usize>(kept: Kept, levels: &mut [u16]) -> u64
+    requires { Blank kept levels.old × (kept.scan.w * kept.scan.h ≤ N) × (N ≤ 1024) }
+    ensures { ChosenBy cheapest kept.entry levels.new result }
+{
+    let mut taken = [NOTHING; N];
+    find_in(kept, levels, &mut taken[..kept.magnitudes.len()])
+}
+
 // The levels, by rows as what is kept, and what the block costs with them.
 pub fn find_levels(kept: Kept, levels: &mut [u16]) -> u64
     requires { Blank kept levels.old }
     ensures { ChosenBy cheapest kept.entry levels.new result }
 {
-    let mut taken = [NOTHING; 1024];
-    find_in(kept, levels, &mut taken[..kept.magnitudes.len()])
+    match kept.magnitudes.len() {
+        0..=64 => find_in_room::<64>(kept, levels),
+        65..=256 => find_in_room::<256>(kept, levels),
+        _ => find_in_room::<1024>(kept, levels),
+    }
 }

@@ -22,8 +22,8 @@ use Rattle.quantise.proofs.quant_nnz.Goals as goal
 
 pub returns-then-no_side : goal.returns-then-no_side
 returns-then-no_side c =
-    let a = side_said c.args.block.now (costs_of c.args.costs.now) c.args.coding (sym c.no_side.ensures ∙ c.if-no_side.true) _
-    c.into.ensures in
+    let a = side_said c.args.block.now (costs_of c.args.costs.now) c.args.coding
+    (sym c.no_side.ensures ∙ c.if-no_side.true) _ c.into.ensures in
     record { answer = a.0; buffer = a.1 }
 
 pub returns-then-settings-gt-MOST_QP : goal.returns-then-settings-gt-MOST_QP
@@ -42,15 +42,18 @@ returns-then-lambda_refused c =
 pub returns-then-costs_refused : goal.returns-then-costs_refused
 returns-then-costs_refused c =
     let a = cost_said c.args.block.now (costs_of c.args.costs.now) c.args.coding
-    (sym c.no_side.ensures ∙ c.if-no_side.false) c.if-settings-gt-MOST_QP.false (sym c.lambda_refused.ensures ∙ c.if-lambda_refused.false)
+    (sym c.no_side.ensures ∙ c.if-no_side.false) c.if-settings-gt-MOST_QP.false
+    (sym c.lambda_refused.ensures ∙ c.if-lambda_refused.false)
     (sym c.costs_refused.ensures ∙ c.if-costs_refused.true) _ c.into-then-costs_refused.ensures in
     record { answer = a.0; buffer = a.1 }
 
 pub returns-then-block-n : goal.returns-then-block-n
 returns-then-block-n c =
     let a = length_said c.args.block.now (costs_of c.args.costs.now) c.args.coding
-    (sym c.no_side.ensures ∙ c.if-no_side.false) c.if-settings-gt-MOST_QP.false (sym c.lambda_refused.ensures ∙ c.if-lambda_refused.false)
-    (sym c.costs_refused.ensures ∙ c.if-costs_refused.false) (rw (← c.side-a.ensures.0) c.if-block-n.true) _ c.into-then-block-n.ensures in
+    (sym c.no_side.ensures ∙ c.if-no_side.false) c.if-settings-gt-MOST_QP.false
+    (sym c.lambda_refused.ensures ∙ c.if-lambda_refused.false)
+    (sym c.costs_refused.ensures ∙ c.if-costs_refused.false) (rw (← c.side-a.ensures.0) c.if-block-n.true) _
+    c.into-then-block-n.ensures in
     record { answer = a.0; buffer = a.1 }
 
 -- a refusal with its component
