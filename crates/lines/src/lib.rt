@@ -11,8 +11,8 @@ use amounts::{Millionths, Place, Price};
 use asked::{Asked, Picture};
 use fates::Tally;
 use guarding::Guarded;
-use page::{Greys, Levels, Pictures, Samples};
-use picture::{Block, Size};
+use page::{Greys, Levels, Pgm, Samples};
+use picture::{Block, Pictures, Size};
 use shown::{Worst, darkest, farthest};
 use std::io;
 use std::io::Print;
@@ -117,13 +117,8 @@ fn place_of(pictures: Pictures<'_>, worst: Worst) -> Place
 }
 
 fn put_worst<W: Print>(out: &W, pictures: Pictures<'_>) -> io::Result<()> {
-    let Pictures {
-        size,
-        camera,
-        shown,
-    } = pictures;
-    let farthest = place_of(pictures, farthest(camera, shown, size.area()));
-    let darkest = place_of(pictures, darkest(camera, shown, size.area()));
+    let farthest = place_of(pictures, farthest(pictures));
+    let darkest = place_of(pictures, darkest(pictures));
     print!(out;
         "largest difference of a sample in the whole {farthest}; both count from 0.
 largest darkening of a sample in the whole {darkest}.
@@ -148,9 +143,9 @@ and any filter, with the picture's last column and row repeated outside.
 
 // All that stands behind the blocks.
 pub fn put_shown<W: Print>(out: &W, pictures: Pictures<'_>, asked: Asked) -> io::Result<()> {
-    put_whole(out, pictures.greys())?;
+    put_whole(out, Greys::of(pictures))?;
     put_worst(out, pictures)?;
     put_proved(out, asked.height)?;
-    let pgm = pictures.pgm();
+    let pgm = Pgm::of(pictures);
     print!(out; "\nthe picture shown, as a PGM:\n{pgm}")
 }

@@ -7,4 +7,4 @@ mod block;
 mod whole;
 
 pub use block::{Levels, Samples};
-pub use whole::{Greys, Pgm, Pictures};
+pub use whole::{Greys, Pgm};

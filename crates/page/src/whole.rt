@@ -1,40 +1,8 @@
 // The whole pictures on the page.
 ghost use Rattle.std.specs.Prelude.{◌≡◌, ◌+◌, ◌/◌, ◌≤◌};
 
-use picture::Size;
+use picture::{Pictures, Size};
 use std::fmt::{Display, Formatter, Result, Write};
-
-// By rows, in front of what else there is room for: as the camera saw it, and as it is shown.
-#[derive(Clone, Copy)]
-pub struct Pictures<'a> {
-    pub size: Size,
-    pub camera: &'a [u16; 65536],
-    pub shown: &'a [u16; 65536],
-}
-
-impl<'a> Pictures<'a> {
-    // The two beside each other, a grey for some samples of some rows, so that they fit on a line.
-    pub fn greys(self) -> Greys<'a>
-        ensures { (result.step ≡ (self.entry.size.width + 55) / 56)
-            × (result.pictures.camera.now ≡ self.entry.camera.now)
-            × (result.pictures.shown.now ≡ self.entry.shown.now) }
-    {
-        Greys {
-            pictures: self,
-            step: self.size.width.div_ceil(56),
-        }
-    }
-
-    // The one that is shown.
-    pub fn pgm(self) -> Pgm<'a>
-        ensures { (result.size ≡ self.entry.size) × (result.samples.now ≡ self.entry.shown.now) }
-    {
-        Pgm {
-            size: self.size,
-            samples: self.shown,
-        }
-    }
-}
 
 // A grey for each step-th sample of each step-th row.
 #[derive(Clone, Copy)]
@@ -42,6 +10,18 @@ pub struct Greys<'a> {
     pub pictures: Pictures<'a>,
     pub step: usize,
     pub ghost some: { 1 ≤ step },
+}
+
+impl<'a> Greys<'a> {
+    // Those that fit on a line, the two pictures beside each other.
+    pub fn of(pictures: Pictures<'a>) -> Greys<'a>
+        ensures { (result.step ≡ (pictures.entry.size.width + 55) / 56)
+            × (result.pictures.camera.now ≡ pictures.entry.camera.now)
+            × (result.pictures.shown.now ≡ pictures.entry.shown.now) }
+    {
+        let step = pictures.size.width.div_ceil(56);
+        Greys { pictures, step }
+    }
 }
 
 // Ten, from dark to light.
@@ -105,6 +85,19 @@ impl Display for Greys<'_> {
 pub struct Pgm<'a> {
     pub size: Size,
     pub samples: &'a [u16; 65536],
+}
+
+impl<'a> Pgm<'a> {
+    // The one that is shown.
+    pub fn of(pictures: Pictures<'a>) -> Pgm<'a>
+        ensures { (result.size ≡ pictures.entry.size)
+            × (result.samples.now ≡ pictures.entry.shown.now) }
+    {
+        Pgm {
+            size: pictures.size,
+            samples: pictures.shown,
+        }
+    }
 }
 
 // A row of it, in lines of up to 14 samples.

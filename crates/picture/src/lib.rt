@@ -11,6 +11,14 @@ mod sides;
 pub use block::Block;
 pub use sides::Size;
 
+// The two whole pictures by rows: as the camera saw it, and as it is shown.
+#[derive(Clone, Copy)]
+pub struct Pictures<'a> {
+    pub size: Size,
+    pub camera: &'a [u16; 65536],
+    pub shown: &'a [u16; 65536],
+}
+
 // The samples that were kept, in the picture's own order.
 pub fn by_rows(kept: &[u16; 65536], size: Size, shown: &mut [u16; 65536])
     ensures { ByRows kept.now size shown.new }
