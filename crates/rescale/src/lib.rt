@@ -4,12 +4,12 @@
 
 ghost use Rattle.std.specs.Prelude.{◌≡◌, map, ℕ, ◌+◌, ◌<◌, ◌≤◌, length, nat_abs, pos};
 ghost use Rattle.integers.specs.Sum.{at};
-ghost use Rattle.refusals.specs.Sides.{most_log2};
 ghost use Rattle.tables.specs.Scales.{back};
 ghost use Rattle.decoding.specs.Scaling.{scaled_back};
 ghost use Rattle.rescale.specs.Inner.Step.{stepped};
 
 use parts::clip;
+use refusals::ranges::{Qp, Side};
 use tables::scales::back_scale;
 
 // One level.
@@ -49,13 +49,12 @@ fn whole(block: &mut [i16], times: u32, half: u32, down: u32)
 }
 
 // Every level of the block is scaled back.
-pub fn rescale(block: &mut [i16], log2_side: usize, qp: u32)
-    requires { (1 ≤ log2_side) × (log2_side ≤ most_log2) × (qp ≤ 63) }
-    ensures { block.new ≡ map (scaled_back back log2_side qp) block.old }
+pub fn rescale(block: &mut [i16], side: Side, qp: Qp)
+    ensures { block.new ≡ map (scaled_back back side.log2 qp.qp) block.old }
 {
-    let s = back_scale(qp);
-    let p = qp / 6;
-    let l = log2_side as u32;
+    let s = back_scale(qp.qp);
+    let p = qp.qp / 6;
+    let l = side.log2 as u32;
     if l < p {
         whole(block, s << (p - 1 - l), 0, 0);
     } else {

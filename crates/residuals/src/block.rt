@@ -4,12 +4,11 @@
 ghost use Rattle.std.specs.Prelude.{◌≡◌, ◌*◌, ◌^◌, ◌≤◌, length, pos, nat_abs, ◌+ℤ◌, ◌-ℤ◌, ◌*ℤ◌};
 ghost use Rattle.integers.specs.Clip.{clipped};
 ghost use Rattle.integers.specs.Floor.{rounded};
-ghost use Rattle.refusals.specs.Sides.{most_log2};
 ghost use Rattle.decoding.specs.Inverse.{residuals};
 
 use fours::{last_columns, last_rows, turn};
 use parts::{high, join, low};
-use refusals::side;
+use refusals::ranges::Side;
 use unstage::unstage;
 
 // x and y are rooms for sums, lower one for the lower parts; the higher ones stand in the block.
@@ -18,21 +17,20 @@ fn both_stages(
     x: &mut [i32],
     y: &mut [i32],
     lower: &mut [i16],
-    lw: usize,
-    lh: usize,
+    width: Side,
+    height: Side,
 )
-    requires le_lw { (1 ≤ lw) × (lw ≤ most_log2) × (1 ≤ lh) × (lh ≤ most_log2) }
-    requires block_len { (length block.old ≡ 2 ^ lw * 2 ^ lh) × (length x.old ≡ length block.old)
+    requires { (length block.old ≡ 2 ^ width.log2 * 2 ^ height.log2) × (length x.old ≡ length block.old)
         × (length y.old ≡ length block.old) × (length lower.old ≡ length block.old) }
-    ensures { block.new ≡ residuals block.old lw lh }
+    ensures { block.new ≡ residuals block.old width.log2 height.log2 }
 {
-    let w = side(lw);
-    let h = side(lh);
-    unstage(lw, h, block, x);
+    let w = width.length();
+    let h = height.length();
+    unstage(width, h, block, x);
     high(x, block);
     low(x, lower);
-    unstage(lh, w, block, x);
-    unstage(lh, w, lower, y);
+    unstage(height, w, block, x);
+    unstage(height, w, lower, y);
     join(x, y, block);
 }
 
@@ -91,113 +89,107 @@ fn restore_two(block: &mut [i16])
 }
 
 // A block 4 high: the first stage over its rows, the last over its columns.
-fn four_high(block: &mut [i16], x: &mut [i32], lw: usize)
-    requires { (1 ≤ lw) × (lw ≤ most_log2) × (length block.old ≡ 2 ^ lw * 4)
-        × (length x.old ≡ length block.old) }
-    ensures { block.new ≡ residuals block.old lw 2 }
+fn four_high(block: &mut [i16], x: &mut [i32], width: Side)
+    requires { (length block.old ≡ 2 ^ width.log2 * 4) × (length x.old ≡ length block.old) }
+    ensures { block.new ≡ residuals block.old width.log2 2 }
 {
-    let w = side(lw);
-    unstage(lw, 4, block, x);
+    let w = width.length();
+    unstage(width, 4, block, x);
     last_columns(w, x, block);
 }
 
 // A block 4 wide: the first stage over its columns, which are laid out one after the other, the last over its rows.
-fn four_wide(block: &mut [i16], x: &mut [i32], columns: &mut [i16], lh: usize)
-    requires { (1 ≤ lh) × (lh ≤ most_log2) × (length block.old ≡ 4 * 2 ^ lh) × (length x.old ≡ length block.old)
+fn four_wide(block: &mut [i16], x: &mut [i32], columns: &mut [i16], height: Side)
+    requires { (length block.old ≡ 4 * 2 ^ height.log2) × (length x.old ≡ length block.old)
         × (length columns.old ≡ length block.old) }
-    ensures { block.new ≡ residuals block.old 2 lh }
+    ensures { block.new ≡ residuals block.old 2 height.log2 }
 {
-    let h = side(lh);
+    let h = height.length();
     turn(block, h, columns);
-    unstage(lh, 4, columns, x);
+    unstage(height, 4, columns, x);
     last_rows(h, x, block);
 }
 
 // A block 4 high in a room of N places.
-fn high_in_rooms<const N: usize>(block: &mut [i16], lw: usize)
-    requires le_lw { (1 ≤ lw) × (lw ≤ most_log2) × (N ≤ 1024) }
-    requires block_len { (length block.old ≡ 2 ^ lw * 4) × (length block.old ≤ N) }
-    ensures { block.new ≡ residuals block.old lw 2 }
+fn high_in_rooms<const N: usize>(block: &mut [i16], width: Side)
+    requires { (N ≤ 1024) × (length block.old ≡ 2 ^ width.log2 * 4) × (length block.old ≤ N) }
+    ensures { block.new ≡ residuals block.old width.log2 2 }
 {
     let n = block.len();
     let mut x = [0i32; N];
-    four_high(block, &mut x[..n], lw);
+    four_high(block, &mut x[..n], width);
 }
 
 #[tactic(auto, using(crate::proofs::Rooms::side_small))]
-fn restore_high(block: &mut [i16], lw: usize)
-    requires { (1 ≤ lw) × (lw ≤ most_log2) × (length block.old ≡ 2 ^ lw * 4) }
-    ensures { block.new ≡ residuals block.old lw 2 }
+fn restore_high(block: &mut [i16], width: Side)
+    requires { length block.old ≡ 2 ^ width.log2 * 4 }
+    ensures { block.new ≡ residuals block.old width.log2 2 }
 {
     if block.len() <= 32 {
-        high_in_rooms::<32>(block, lw);
+        high_in_rooms::<32>(block, width);
     } else {
-        high_in_rooms::<128>(block, lw);
+        high_in_rooms::<128>(block, width);
     }
 }
 
 // A block 4 wide in rooms of N places.
-fn wide_in_rooms<const N: usize>(block: &mut [i16], lh: usize)
-    requires le_lh { (1 ≤ lh) × (lh ≤ most_log2) × (N ≤ 1024) }
-    requires block_len { (length block.old ≡ 4 * 2 ^ lh) × (length block.old ≤ N) }
-    ensures { block.new ≡ residuals block.old 2 lh }
+fn wide_in_rooms<const N: usize>(block: &mut [i16], height: Side)
+    requires { (N ≤ 1024) × (length block.old ≡ 4 * 2 ^ height.log2) × (length block.old ≤ N) }
+    ensures { block.new ≡ residuals block.old 2 height.log2 }
 {
     let n = block.len();
     let mut x = [0i32; N];
     let mut columns = [0i16; N];
-    four_wide(block, &mut x[..n], &mut columns[..n], lh);
+    four_wide(block, &mut x[..n], &mut columns[..n], height);
 }
 
 #[tactic(auto, using(crate::proofs::Rooms::side_small))]
-fn restore_wide(block: &mut [i16], lh: usize)
-    requires { (1 ≤ lh) × (lh ≤ most_log2) × (length block.old ≡ 4 * 2 ^ lh) }
-    ensures { block.new ≡ residuals block.old 2 lh }
+fn restore_wide(block: &mut [i16], height: Side)
+    requires { length block.old ≡ 4 * 2 ^ height.log2 }
+    ensures { block.new ≡ residuals block.old 2 height.log2 }
 {
     if block.len() <= 32 {
-        wide_in_rooms::<32>(block, lh);
+        wide_in_rooms::<32>(block, height);
     } else {
-        wide_in_rooms::<128>(block, lh);
+        wide_in_rooms::<128>(block, height);
     }
 }
 
 // Any block in rooms of N places.
-fn any_in_rooms<const N: usize>(block: &mut [i16], lw: usize, lh: usize)
-    requires le_lw { (1 ≤ lw) × (lw ≤ most_log2) × (1 ≤ lh) × (lh ≤ most_log2) × (N ≤ 1024) }
-    requires block_len { (length block.old ≡ 2 ^ lw * 2 ^ lh) × (length block.old ≤ N) }
-    ensures { block.new ≡ residuals block.old lw lh }
+fn any_in_rooms<const N: usize>(block: &mut [i16], width: Side, height: Side)
+    requires { (N ≤ 1024) × (length block.old ≡ 2 ^ width.log2 * 2 ^ height.log2) × (length block.old ≤ N) }
+    ensures { block.new ≡ residuals block.old width.log2 height.log2 }
 {
     let n = block.len();
     let mut x = [0i32; N];
     let mut y = [0i32; N];
     let mut lower = [0i16; N];
-    both_stages(block, &mut x[..n], &mut y[..n], &mut lower[..n], lw, lh);
+    both_stages(block, &mut x[..n], &mut y[..n], &mut lower[..n], width, height);
 }
 
 // The rooms are small where the block is small.
 #[tactic(auto, using(stages::proofs::Sizes::at_most_1024))]
-fn restore_any(block: &mut [i16], lw: usize, lh: usize)
-    requires le_lw { (1 ≤ lw) × (lw ≤ most_log2) × (1 ≤ lh) × (lh ≤ most_log2) }
-    requires block_len { length block.old ≡ 2 ^ lw * 2 ^ lh }
-    ensures { block.new ≡ residuals block.old lw lh }
+fn restore_any(block: &mut [i16], width: Side, height: Side)
+    requires { length block.old ≡ 2 ^ width.log2 * 2 ^ height.log2 }
+    ensures { block.new ≡ residuals block.old width.log2 height.log2 }
 {
     match block.len() {
-        0..=16 => any_in_rooms::<16>(block, lw, lh),
-        17..=64 => any_in_rooms::<64>(block, lw, lh),
-        65..=256 => any_in_rooms::<256>(block, lw, lh),
-        _ => any_in_rooms::<1024>(block, lw, lh),
+        0..=16 => any_in_rooms::<16>(block, width, height),
+        17..=64 => any_in_rooms::<64>(block, width, height),
+        65..=256 => any_in_rooms::<256>(block, width, height),
+        _ => any_in_rooms::<1024>(block, width, height),
     }
 }
 
 // The residuals of the block in place of its coefficients.
-pub fn restore(block: &mut [i16], lw: usize, lh: usize)
-    requires le_lw { (1 ≤ lw) × (lw ≤ most_log2) × (1 ≤ lh) × (lh ≤ most_log2) }
-    requires block_len { length block.old ≡ 2 ^ lw * 2 ^ lh }
-    ensures { block.new ≡ residuals block.old lw lh }
+pub fn restore(block: &mut [i16], width: Side, height: Side)
+    requires { length block.old ≡ 2 ^ width.log2 * 2 ^ height.log2 }
+    ensures { block.new ≡ residuals block.old width.log2 height.log2 }
 {
-    match (lw, lh) {
+    match (width.log2, height.log2) {
         (1, 1) => restore_two(block),
-        (_, 2) => restore_high(block, lw),
-        (2, _) => restore_wide(block, lh),
-        _ => restore_any(block, lw, lh),
+        (_, 2) => restore_high(block, width),
+        (2, _) => restore_wide(block, height),
+        _ => restore_any(block, width, height),
     }
 }

@@ -9,12 +9,11 @@ ghost use Rattle.decoding.specs.Call.{levels_lent, scale_verdict, scale_buffer};
 ghost use Rattle.decoding.specs.Call.{coefficients_lent, inverse_verdict, inverse_buffer};
 
 use block::restore;
-use refusals::{Refusal, no_side, side};
+use refusals::Refusal;
+use refusals::ranges::{Qp, Side};
 use rescale::rescale;
 
 pub mod block;
-
-const MOST_QP: u32 = 63;
 
 // The levels of a square block at the front of the buffer, by rows, become its coefficients.
 #[tactic(auto, unfolding(decoding::specs::Call::scale_verdict, decoding::specs::Call::scale_buffer))]
@@ -22,18 +21,13 @@ pub fn scale_back(block: &mut [i16], log2_side: usize, qp: u32) -> Result<(), Re
     ensures answer { verdict_outcome result ≡ scale_verdict (levels_lent block.old log2_side qp) }
     ensures buffer { block.new ≡ scale_buffer (levels_lent block.old log2_side qp) }
 {
-    if no_side(log2_side) {
-        return Err(Refusal::Side);
-    }
-    if MOST_QP < qp {
-        return Err(Refusal::Qp);
-    }
-    let a = side(log2_side);
-    let n = a * a;
+    let side = Side::try_from(log2_side)?;
+    let qp = Qp::try_from(qp)?;
+    let n = side.length() * side.length();
     if block.len() < n {
         return Err(Refusal::Length);
     }
-    rescale(&mut block[..n], log2_side, qp);
+    rescale(&mut block[..n], side, qp);
     Ok(())
 }
 
@@ -45,13 +39,12 @@ pub fn inverse(block: &mut [i16], log2_w: usize, log2_h: usize) -> Result<(), Re
     ensures buffer { block.new
         ≡ inverse_buffer (coefficients_lent block.old log2_w log2_h) }
 {
-    if no_side(log2_w) || no_side(log2_h) {
-        return Err(Refusal::Side);
-    }
-    let n = side(log2_w) * side(log2_h);
+    let width = Side::try_from(log2_w)?;
+    let height = Side::try_from(log2_h)?;
+    let n = width.length() * height.length();
     if block.len() < n {
         return Err(Refusal::Length);
     }
-    restore(&mut block[..n], log2_w, log2_h);
+    restore(&mut block[..n], width, height);
     Ok(())
 }

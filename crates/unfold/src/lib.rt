@@ -10,6 +10,7 @@ ghost use Rattle.tables.specs.Inner.OddRows.{odd_rows};
 ghost use Rattle.unfold.specs.Inner.Back.{Parted, Halves, Spread, Back};
 
 use butterfly::odd_half;
+use refusals::ranges::Side;
 use tables::number::Number;
 use tables::odd_rows::OddRows;
 
@@ -95,14 +96,13 @@ pub fn back8(rows: &OddRows<i16>, x: &[i16], row: &mut [i32])
     spread(&values, &b, row);
 }
 
-// A line of side 2^log2 that is no longer.
+// A line of a side that is no longer.
 #[inline(always)]
-pub fn back(log2: usize, rows: &OddRows<i16>, x: &[i16], row: &mut [i32])
-    requires side { (1 ≤ log2) × (log2 ≤ 3) }
-    requires x_len { (length x.now ≡ 2 ^ log2) × (length row.old ≡ 2 ^ log2) }
-    ensures { Back log2 x.now row.new }
+pub fn back(side: Side, rows: &OddRows<i16>, x: &[i16], row: &mut [i32])
+    requires { (side.log2 ≤ 3) × (length x.now ≡ 2 ^ side.log2) × (length row.old ≡ 2 ^ side.log2) }
+    ensures { Back side.log2 x.now row.new }
 {
-    match log2 {
+    match side.log2 {
         1 => back2(x, row),
         2 => back4(rows, x, row),
         _ => back8(rows, x, row),

@@ -5,28 +5,28 @@
 
 ghost use Rattle.std.specs.Prelude.{◌≡◌, ℕ, ◌+◌, ◌-◌, ◌*◌, ◌^◌, ◌<◌, ◌≤◌, length, nat_abs};
 ghost use Rattle.integers.specs.Sum.{at};
-ghost use Rattle.refusals.specs.Sides.{most_log2};
 ghost use Rattle.columns.specs.Inner.Placed.{Placed};
 ghost use Rattle.unfold.specs.Inner.Back.{Within, odd_at};
 ghost use Rattle.tables.specs.Matrix.{matrix};
 ghost use Rattle.unstage.specs.Inner.Rows.{Values, Small, Evens, Odds, Unfolded, RowsUnfolded};
 
 use columns::store;
+use refusals::ranges::Side;
 use tables::odd_rows::{OddRows, narrow_rows};
 use unfold::{back, back8, dot16, halves, part};
 
-// The lines of side N, 2^log2, where that is 8 at most.
-fn each_line<const N: usize>(log2: usize, lines: usize, src: &[i16], dst: &mut [i32])
-    requires side { (N ≡ 2 ^ log2) × (1 ≤ log2) × (log2 ≤ 3) × (lines ≤ 32) }
+// The lines of side N, where that is 8 at most.
+fn each_line<const N: usize>(side: Side, lines: usize, src: &[i16], dst: &mut [i32])
+    requires side { (N ≡ 2 ^ side.log2) × (side.log2 ≤ 3) × (lines ≤ 32) }
     requires src_len { (length src.now ≡ lines * N) × (length dst.old ≡ N * lines) }
-    ensures { Values log2 lines src.now dst.new }
+    ensures { Values side.log2 lines src.now dst.new }
 {
     let rows = narrow_rows();
     for j in 0..lines {
         let a = j * N;
         let e = a + N;
         let mut row = [0i32; N];
-        back(log2, &rows, &src[a..e], &mut row);
+        back(side, &rows, &src[a..e], &mut row);
         store(&row, dst, lines, j);
     }
 }
@@ -162,16 +162,16 @@ fn lines32(lines: usize, src: &[i16], dst: &mut [i32])
     halves32(lines, src, &mut es[..m], &mut os[..m], dst);
 }
 
-// The lines of side 2^log2, as many as `lines`.
-pub fn unstage(log2: usize, lines: usize, src: &[i16], dst: &mut [i32])
-    requires le_log2 { (1 ≤ log2) × (log2 ≤ most_log2) × (lines ≤ 32) }
-    requires src_len { (length src.now ≡ lines * 2 ^ log2) × (length dst.old ≡ 2 ^ log2 * lines) }
-    ensures { Values log2 lines src.now dst.new }
+// The lines of a side, as many as `lines`.
+pub fn unstage(side: Side, lines: usize, src: &[i16], dst: &mut [i32])
+    requires src_len { (lines ≤ 32) × (length src.now ≡ lines * 2 ^ side.log2)
+        × (length dst.old ≡ 2 ^ side.log2 * lines) }
+    ensures { Values side.log2 lines src.now dst.new }
 {
-    match log2 {
-        1 => each_line::<2>(1, lines, src, dst),
-        2 => each_line::<4>(2, lines, src, dst),
-        3 => each_line::<8>(3, lines, src, dst),
+    match side.log2 {
+        1 => each_line::<2>(side, lines, src, dst),
+        2 => each_line::<4>(side, lines, src, dst),
+        3 => each_line::<8>(side, lines, src, dst),
         4 => lines16(lines, src, dst),
         _ => lines32(lines, src, dst),
     }

@@ -31,43 +31,43 @@ half_is l p k =
 pub whole-requires : goal.whole-requires
 whole-requires c =
     let s = c.back_scale-s.result in
-    let l = c.args.log2_side in
-    let qp = c.args.qp in
+    let l = c.args.side.log2 in
+    let qp = c.args.qp.qp in
     let e = c.back_scale-s.ensures in (
-      omega (arith, times_is s l qp e c.requires.0 c.requires.2, times_small s l qp e c.requires.0 c.requires.2),
+      omega (arith, times_is s l qp e c.args.side.in_range.0 c.args.qp.in_range, times_small s l qp e c.args.side.in_range.0 c.args.qp.in_range),
       omega arith,
       omega arith,
     )
 
 pub whole-requires-else-l-p : goal.whole-requires-else-l-p
 whole-requires-else-l-p c =
-    let l = c.args.log2_side in
-    let p = c.args.qp / 6 in (
-      omega (arith, scale_small c.back_scale-s.result c.args.qp c.back_scale-s.ensures),
-      omega (arith, half_is l p c.requires.1, half_small l p c.requires.1),
-      omega (arith, c.requires.1),
+    let l = c.args.side.log2 in
+    let p = c.args.qp.qp / 6 in (
+      omega (arith, scale_small c.back_scale-s.result c.args.qp.qp c.back_scale-s.ensures),
+      omega (arith, half_is l p c.args.side.in_range.1, half_small l p c.args.side.in_range.1),
+      omega (arith, c.args.side.in_range.1),
     )
 
 pub returns-then-l-p : goal.returns-then-l-p
 returns-then-l-p c =
     let s = c.back_scale-s.result in
-    let l = c.args.log2_side in
-    let qp = c.args.qp in
+    let l = c.args.side.log2 in
+    let qp = c.args.qp.qp in
     let e = c.back_scale-s.ensures in
     let xs = c.args.block.now in
     c.whole.ensures
-    ∙ ap (λ (m : ℕ). map (stepped (pos m) 0 0) xs) (times_is s l qp e c.requires.0 c.requires.2)
+    ∙ ap (λ (m : ℕ). map (stepped (pos m) 0 0) xs) (times_is s l qp e c.args.side.in_range.0 c.args.qp.in_range)
     ∙ ap (λ (m : ℕ). map (stepped (pos (m * 2 ^ (qp / 6 - 1 - l))) 0 0) xs) e
     ∙ map_congr_left {l = xs} (λ z m. nothing_dropped back l qp z c.if-l-p.true)
 
 pub returns-else-l-p : goal.returns-else-l-p
 returns-else-l-p c =
     let s = c.back_scale-s.result in
-    let l = c.args.log2_side in
-    let qp = c.args.qp in
+    let l = c.args.side.log2 in
+    let qp = c.args.qp.qp in
     let xs = c.args.block.now in
     let d = 1 + l - qp / 6 in
     c.whole-else-l-p.ensures
-    ∙ ap (λ (m : ℕ). map (stepped (pos s) m d) xs) (half_is l (qp / 6) c.requires.1)
+    ∙ ap (λ (m : ℕ). map (stepped (pos s) m d) xs) (half_is l (qp / 6) c.args.side.in_range.1)
     ∙ ap (λ (m : ℕ). map (stepped (pos m) (2 ^ (l - qp / 6)) d) xs) c.back_scale-s.ensures
     ∙ map_congr_left {l = xs} (λ z m. some_dropped back l qp z c.if-l-p.false)

@@ -10,5 +10,5 @@ pub returns-clause-buffer : goal.returns-clause-buffer
 unfolding inverse_buffer inverse_verdict
 returns-clause-buffer c =
     let a = c.args in
-    let e = c.restore.ensures ∙ residuals_front a.block.now c.side.result c.side-2.result a.log2_w a.log2_h c.side.ensures.0 c.side-2.ensures.0 in
+    let e = c.restore.ensures ∙ residuals_front a.block.now c.length.result c.length-2.result _ _ c.length.ensures.0 c.length-2.ensures.0 in
     grind (arith, nat_tests)

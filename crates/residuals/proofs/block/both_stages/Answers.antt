@@ -9,36 +9,36 @@ use Rattle.residuals.proofs.block.both_stages.Goals as goal
 
 pub high-requires-clause-by_index : goal.high-requires-clause-by_index
 high-requires-clause-by_index c =
-    let z = c.side-h in
-    first_within c.args.lw c.args.lh c.requires.le_lw.1 c.requires.le_lw.3 c.args.block.now c.unstage.new.dst
-    z.result z.ensures.0 c.unstage.ensures (omega (arith, c.requires.block_len.0))
+    let z = c.length-h in
+    first_within c.args.width.log2 c.args.height.log2 c.args.width.in_range.1 c.args.height.in_range.1 c.args.block.now c.unstage.new.dst
+    z.result z.ensures.0 c.unstage.ensures (omega (arith, c.requires.0))
 
 pub low-requires-clause-by_index : goal.low-requires-clause-by_index
 low-requires-clause-by_index c =
-    let z = c.side-h in
-    first_within c.args.lw c.args.lh c.requires.le_lw.1 c.requires.le_lw.3 c.args.block.now c.unstage.new.dst
-    z.result z.ensures.0 c.unstage.ensures (omega (arith, c.requires.block_len.0))
+    let z = c.length-h in
+    first_within c.args.width.log2 c.args.height.log2 c.args.width.in_range.1 c.args.height.in_range.1 c.args.block.now c.unstage.new.dst
+    z.result z.ensures.0 c.unstage.ensures (omega (arith, c.requires.0))
 
 pub join-requires-clause-by_index : goal.join-requires-clause-by_index
 join-requires-clause-by_index c =
     let a = c.args in
-    let z = c.side-h in
-    let w = c.side-w in
+    let z = c.length-h in
+    let w = c.length-w in
     let x = c.unstage.new.dst in
     let hi = c.high.new.hi in
     let lo = c.low.new.lo in
     let p = c.unstage-2.new.dst in
     let q = c.unstage-3.new.dst in
-    let area = 2 ^ a.lw * 2 ^ a.lh in
-    let long : length x ≡ area = omega (arith, c.requires.block_len.0) in
+    let area = 2 ^ a.width.log2 * 2 ^ a.height.log2 in
+    let long : length x ≡ area = omega (arith, c.requires.0) in
     let lhi : length hi ≡ length x = omega arith in
     let llo : length lo ≡ length x = omega arith in
     let second : length p ≡ area = omega arith in
     λ i h. let inside : i < area = omega arith in (
-      high_within a.lw a.lh c.requires.le_lw.1 c.requires.le_lw.3 a.block.now x
+      high_within a.width.log2 a.height.log2 c.args.width.in_range.1 c.args.height.in_range.1 a.block.now x
           z.result z.ensures.0 c.unstage.ensures long hi lo p q w.result w.ensures.0
           lhi c.high.ensures llo c.low.ensures c.unstage-2.ensures c.unstage-3.ensures i inside,
-      low_within a.lw a.lh c.requires.le_lw.1 c.requires.le_lw.3 a.block.now x
+      low_within a.width.log2 a.height.log2 c.args.width.in_range.1 c.args.height.in_range.1 a.block.now x
           z.result z.ensures.0 c.unstage.ensures long hi lo p q w.result w.ensures.0
           lhi c.high.ensures llo c.low.ensures c.unstage-2.ensures c.unstage-3.ensures i inside,
     )
@@ -46,19 +46,19 @@ join-requires-clause-by_index c =
 pub returns : goal.returns
 returns c =
     let a = c.args in
-    let z = c.side-h in
-    let w = c.side-w in
+    let z = c.length-h in
+    let w = c.length-w in
     let x = c.unstage.new.dst in
     let hi = c.high.new.hi in
     let lo = c.low.new.lo in
     let p = c.unstage-2.new.dst in
     let q = c.unstage-3.new.dst in
-    let area = 2 ^ a.lw * 2 ^ a.lh in
-    let long : length x ≡ area = omega (arith, c.requires.block_len.0) in
+    let area = 2 ^ a.width.log2 * 2 ^ a.height.log2 in
+    let long : length x ≡ area = omega (arith, c.requires.0) in
     let lhi : length hi ≡ length x = omega arith in
     let llo : length lo ≡ length x = omega arith in
     let second : length p ≡ area = omega arith in
-    settled a.lw a.lh c.requires.le_lw.1 c.requires.le_lw.3 a.block.now x
+    settled a.width.log2 a.height.log2 c.args.width.in_range.1 c.args.height.in_range.1 a.block.now x
     z.result z.ensures.0 c.unstage.ensures long hi lo p q w.result w.ensures.0
     lhi c.high.ensures llo c.low.ensures c.unstage-2.ensures c.unstage-3.ensures
     c.join.new.block (omega arith) (λ i h. c.join.ensures i (omega arith))
