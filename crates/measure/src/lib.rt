@@ -11,11 +11,10 @@ ghost use Rattle.heights.specs.Call.{lent, measure_answer, measure_outcome};
 
 use coefficients::skip::largest;
 use heights::Extremes;
-use refusals::{Refusal, no_side, side};
+use refusals::Refusal;
+use refusals::ranges::{Qp, Side};
 use rescale::rescale;
 use residuals::block::restore;
-
-const MOST_QP: u32 = 63;
 
 // a - b, 0 at least. It fits 16 bits without a sign, so that the compiler makes eight at a time.
 fn above(a: i16, b: i16) -> u16
@@ -43,15 +42,14 @@ fn apart(residuals: &[i16], shown: &[i16]) -> Extremes
 }
 
 // What the viewer makes of the levels, in their copy.
-fn decode(levels: &[i16], shown: &mut [i16], log2_side: usize, qp: u32)
-    requires le_log2_side { (1 ≤ log2_side) × (log2_side ≤ most_log2) × (qp ≤ 63) }
-    requires levels_len { (length levels.now ≡ 2 ^ log2_side * 2 ^ log2_side)
+fn decode(levels: &[i16], shown: &mut [i16], side: Side, qp: Qp)
+    requires levels_len { (length levels.now ≡ 2 ^ side.log2 * 2 ^ side.log2)
         × (length shown.old ≡ length levels.now) }
-    ensures { shown.new ≡ decoded back log2_side qp levels.now }
+    ensures { shown.new ≡ decoded back side.log2 qp.qp levels.now }
 {
     shown.copy_from_slice(levels);
-    rescale(shown, log2_side, qp);
-    restore(shown, log2_side, log2_side);
+    rescale(shown, side, qp);
+    restore(shown, side, side);
 }
 
 // How far what the viewer makes of the levels lies from the residuals at most; `shown` is a room to decode in. Levels
@@ -71,12 +69,12 @@ pub fn look(
     if largest(levels) == 0 {
         return apart(residuals, levels);
     }
-    decode(levels, shown, log2_side, qp);
+    decode(levels, shown, Side { log2: log2_side }, Qp { qp });
     apart(residuals, shown)
 }
 
 // The two extremes of the square block at the front of either list.
-#[tactic(auto, using(crate::proofs::Front::extremes_front), unfolding(heights::specs::Call::measure_answer))]
+#[tactic(auto, unfolding(heights::specs::Call::measure_answer))]
 pub fn measure(
     residuals: &[i16],
     levels: &[i16],
@@ -86,13 +84,9 @@ pub fn measure(
     ensures { measure_outcome result
         ≡ measure_answer (lent residuals.now levels.now log2_side qp) }
 {
-    if no_side(log2_side) {
-        return Err(Refusal::Side);
-    }
-    if MOST_QP < qp {
-        return Err(Refusal::Qp);
-    }
-    let a = side(log2_side);
+    let side = Side::try_from(log2_side)?;
+    let qp = Qp::try_from(qp)?;
+    let a = side.length();
     let n = a * a;
     if residuals.len() < n || levels.len() < n {
         return Err(Refusal::Length);
@@ -102,7 +96,7 @@ pub fn measure(
         &residuals[..n],
         &levels[..n],
         &mut shown[..n],
-        log2_side,
-        qp,
+        side.log2,
+        qp.qp,
     ))
 }

@@ -164,7 +164,14 @@ fn any_in_rooms<const N: usize>(block: &mut [i16], width: Side, height: Side)
     let mut x = [0i32; N];
     let mut y = [0i32; N];
     let mut lower = [0i16; N];
-    both_stages(block, &mut x[..n], &mut y[..n], &mut lower[..n], width, height);
+    both_stages(
+        block,
+        &mut x[..n],
+        &mut y[..n],
+        &mut lower[..n],
+        width,
+        height,
+    );
 }
 
 // The rooms are small where the block is small.

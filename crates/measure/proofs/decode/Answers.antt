@@ -14,10 +14,11 @@ use Rattle.measure.proofs.decode.Goals as goal
 pub returns : goal.returns
 unfolding decoded coefficients_back
 returns c =
-    let l = c.args.log2_side in
-    let f = scaled_back back l c.args.qp in
+    let l = c.args.side.log2 in
+    let f = scaled_back back l c.args.qp.qp in
     let levels = c.args.levels.now in
     c.restore.ensures
     ∙ ap (λ (x : List ℤ). residuals x l l)
     (c.rescale.ensures
-    ∙ ap (map f) (c.copy_from_slice.ensures.after ∙ sym (take_all (2 ^ l * 2 ^ l) levels (omega (arith, c.requires.levels_len.0)))))
+    ∙ ap (map f)
+    (c.copy_from_slice.ensures.after ∙ sym (take_all (2 ^ l * 2 ^ l) levels (omega (arith, c.requires.levels_len.0)))))

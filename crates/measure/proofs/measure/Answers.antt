@@ -11,5 +11,9 @@ pub returns : goal.returns
 unfolding measure_answer measure_verdict
 returns c =
     let a = c.args in
-    let e = c.look.ensures ∙ extremes_front back a.log2_side a.qp a.residuals.now a.levels.now c.side-a.result c.side-a.ensures.0 in
+    let found =
+    c.look.ensures ∙ extremes_front back c.in_ok-side.side.log2 c.in_ok-qp.qp.qp a.residuals.now a.levels.now c.length-a.result
+    c.length-a.ensures.0 in
+    let e = rw (c.in_ok-side.ensures.0, c.in_ok-qp.ensures.0) at found in
+    let long = rw c.in_ok-side.ensures.0 at c.length-a.ensures.0 in
     grind (arith, nat_tests)
