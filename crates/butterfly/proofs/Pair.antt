@@ -41,7 +41,8 @@ module _ (f : ℤ → ℤ → ℤ) (p q : ℤ) (hp : nat_abs p ≤ 16760832) (hq
   pub sixty_four_fits : SFits w32 (pos 64 *ℤ to_z w32 (of_z w32 (f (to_z w32 (of_z w32 p)) (to_z w32 (of_z w32 q)))))
   sixty_four_fits = let a = one in let b = other in let c = both in simp to_z-of_z times
 
-  pub sixty_four_is : to_z w32 (of_z w32 (pos 64 *ℤ to_z w32 (of_z w32 (f (to_z w32 (of_z w32 p)) (to_z w32 (of_z w32 q))))))
+  pub sixty_four_is : to_z w32
+      (of_z w32 (pos 64 *ℤ to_z w32 (of_z w32 (f (to_z w32 (of_z w32 p)) (to_z w32 (of_z w32 q))))))
       ≡ pos 64 *ℤ f p q
   sixty_four_is = let a = one in let b = other in let c = both in let d = times in simp to_z-of_z
 

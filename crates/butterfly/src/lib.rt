@@ -63,8 +63,8 @@ pub fn odd_half<T: Number>(t: &[T], o: &[T], b: &mut [i32])
     }
 }
 
-// One level of a line x of side 2H: its odd coefficients go behind H places of the row, and what comes back are the sums
-// whose coefficients are the even ones.
+// One level of a line x of side 2H: its odd coefficients go behind H places of the row, and what comes back are the
+// sums, whose coefficients are the even ones.
 fn one_level<const H: usize>(t: &[i32], x: &[i32], row: &mut [i32]) -> [i32; H]
     ghost l: { ℕ }
     requires side { (H ≡ 2 ^ l) × (l < most_log2) × (map ⟦<i32 as Number>⟧.value t.now ≡ odd_rows H) }
@@ -80,7 +80,7 @@ fn one_level<const H: usize>(t: &[i32], x: &[i32], row: &mut [i32]) -> [i32; H]
     e
 }
 
-pub fn line2(x: &[i32], row: &mut [i32])
+fn line2(x: &[i32], row: &mut [i32])
     requires { (length x.now ≡ 2) × (2 ≤ length row.old) × Room 1 x.now }
     ensures { Row matrix 1 x.now row.old row.new }
 {
@@ -90,7 +90,7 @@ pub fn line2(x: &[i32], row: &mut [i32])
     row[1] = 64 * (p - q);
 }
 
-pub fn line4(rows: &OddRows<i32>, x: &[i32], row: &mut [i32])
+fn line4(rows: &OddRows<i32>, x: &[i32], row: &mut [i32])
     requires { (length x.now ≡ 4) × (4 ≤ length row.old) × Room 2 x.now }
     ensures { Row matrix 2 x.now row.old row.new }
 {
@@ -107,7 +107,7 @@ pub fn line8(rows: &OddRows<i32>, x: &[i32], row: &mut [i32])
     line4(rows, &e, row);
 }
 
-pub fn line16(rows: &OddRows<i32>, x: &[i32], row: &mut [i32])
+fn line16(rows: &OddRows<i32>, x: &[i32], row: &mut [i32])
     requires { (length x.now ≡ 16) × (16 ≤ length row.old) × Room 4 x.now }
     ensures { Row matrix 4 x.now row.old row.new }
 {

@@ -1,5 +1,5 @@
--- What the inverse needs of the matrices: the first halves of the odd rows read the same by rows and by columns, so that
--- one table serves both directions; an entry is at most 90; and the magnitudes of a column add up to at most 1864,
+-- What the inverse needs of the matrices: the first halves of the odd rows read the same by rows and by columns, so
+-- that one table serves both directions; an entry is at most 90; and the magnitudes of a column add up to at most 1864,
 -- which bounds every sum of the inverse. One computed test each over the sides.
 use mathlib.Core.Path.{◌≡◌}
 use mathlib.Core.Bool.{Bool}
@@ -57,7 +57,8 @@ columns_computed : T (all (suc most_log2) column_test)
 unfolding all column_test column_weight sum matrix
 columns_computed = tt
 
-pub column_sum : (l : ℕ) → l ≤ most_log2 → (n : ℕ) → n < 2 ^ l → sum_ℕ (2 ^ l) (λ k. nat_abs (matrix (2 ^ l) k n)) ≤ 1864
+pub column_sum : (l : ℕ) → l ≤ most_log2 → (n : ℕ) → n < 2 ^ l
+    → sum_ℕ (2 ^ l) (λ k. nat_abs (matrix (2 ^ l) k n)) ≤ 1864
 unfolding column_test column_weight
 column_sum l hl n hn =
     leb→le (column_weight (2 ^ l) n) 1864

@@ -1,7 +1,8 @@
 -- T_N, the matrix of the N-point transform, by the rule of 31 numbers. The rule is over the largest side B and the
 -- numbers c(a), so that another side with other numbers is one more instance; document 01 has B = 32 and c from column
 -- 0 of T_32.
-use Rattle.std.specs.Prelude.{cond, List, [], ◌∷◌, ◌++◌, ℕ, zero, suc, ◌+◌, ◌*◌, ◌-◌, ◌/◌, ◌%◌, ◌^◌, ltb, get_or, ℤ, pos, neg_ℤ}
+use Rattle.std.specs.Prelude.{cond, List, [], ◌∷◌, ◌++◌, ltb, get_or, ℤ, pos, neg_ℤ}
+use Rattle.std.specs.Prelude.{ℕ, zero, suc, ◌+◌, ◌*◌, ◌-◌, ◌/◌, ◌%◌, ◌^◌}
 use Rattle.integers.specs.Tests.{listed}
 
 -- a = (2n + 1)·k mod 4B, replaced by 4B - a when above 2B

@@ -54,7 +54,8 @@ module _ (lw lh : ℕ) (hw : lw ≤ most_log2) (hh : lh ≤ most_log2) (r : List
       small (y * 2 ^ lw + x) (omega (arith, inside (2 ^ lw) y x hx (2 ^ lh) hy, mul_comm (2 ^ lw) (2 ^ lh)))
 
   -- the sums of the first stage, which isn't rounded
-  pub first_stage_bound : (y u : ℕ) → y < 2 ^ lh → u < 2 ^ lw → nat_abs (stage_at matrix (2 ^ lw) r y u) ≤ 65472 * 2 ^ lw
+  pub first_stage_bound : (y u : ℕ) → y < 2 ^ lh → u < 2 ^ lw
+      → nat_abs (stage_at matrix (2 ^ lw) r y u) ≤ 65472 * 2 ^ lw
   unfolding stage_at
   first_stage_bound y u hy hu =
       omega (

@@ -9,7 +9,8 @@ use Rattle.butterfly.proofs.one_level.Goals as goal
 use Rattle.butterfly.proofs.one_level.Goals.{After-fold}
 
 module _ (g : Over) (c : goal.After-fold g) where
-  taken : Taken g.l g.row.H c.args.x.now c.fold.new.e c.fold.new.o (map (λ z. z) c.args.t.now) (map (λ z. z) c.fold.new.o)
+  taken : Taken g.l g.row.H c.args.x.now c.fold.new.e c.fold.new.o (map (λ z. z) c.args.t.now)
+      (map (λ z. z) c.fold.new.o)
   taken =
       record {
         few = c.requires.1.1.0.1;

@@ -1,7 +1,8 @@
 -- The N-point transform of a line, and how the butterflies work it out: the even coefficients are those of the sums of
 -- the values that stand equally far from the two ends, the odd ones come from the differences. A row holds them in the
 -- order in which they arise, the odd ones behind the even ones. All over a family of matrices M.
-use Rattle.std.specs.Prelude.{◌≡◌, cond, List, ℕ, zero, suc, ◌+◌, ◌-◌, ◌*◌, ◌/◌, ◌%◌, ◌^◌, ◌<◌, ◌≤◌, eqb, length, ℤ, nat_abs, ◌+ℤ◌, ◌-ℤ◌, ◌*ℤ◌}
+use Rattle.std.specs.Prelude.{◌≡◌, cond, List, ℕ, zero, suc, ◌+◌, ◌-◌, ◌*◌, ◌/◌, ◌%◌, ◌^◌, ◌<◌, ◌≤◌, eqb, length}
+use Rattle.std.specs.Prelude.{ℤ, nat_abs, ◌+ℤ◌, ◌-ℤ◌, ◌*ℤ◌}
 use Rattle.integers.specs.Sum.{sum, sum_ℤ, sum_ℕ, at}
 use Rattle.tables.specs.Matrix.{Matrices}
 

@@ -12,7 +12,11 @@ pub offset_bounds-dst-k : goal.offset_bounds-dst-k
 offset_bounds-dst-k g c =
     let a = c.args in
     let inside : c.loop-k.k * a.width + a.c ≤ length a.dst.now =
-    omega (arith, place_below a.width a.c c.loop-k.k (length a.b.now) (length a.dst.now) c.requires.0 (omega arith) c.requires.1) in
+    omega (
+      arith,
+      place_below a.width a.c c.loop-k.k (length a.b.now) (length a.dst.now) c.requires.0 (omega arith)
+          c.requires.1,
+    ) in
     omega (arith, mul-le-mul_right (size (layout g.row.T)) inside)
 
 pub loop-k-preserved : goal.loop-k-preserved
@@ -20,7 +24,11 @@ loop-k-preserved g c = λ d.
     let l = c.loop-k in
     let a = c.args in
     placed_of_more d a.width a.c l.k (λ i. get_or a.b.now i d) a.dst.now l.dst _ c.requires.0
-    (omega (arith, place_below a.width a.c l.k (length a.b.now) (length a.dst.now) c.requires.0 (omega arith) c.requires.1))
+    (omega (
+      arith,
+      place_below a.width a.c l.k (length a.b.now) (length a.dst.now) c.requires.0 (omega arith)
+          c.requires.1,
+    ))
     (get_or_read a.b.now l.k c.index-b-k.result (omega arith) c.index-b-k.is d) (l.invariant d)
 
 pub returns : goal.returns

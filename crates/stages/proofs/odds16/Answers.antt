@@ -13,7 +13,8 @@ use Rattle.stages.proofs.odds16.Goals.{After-fold}
 
 -- what `fold` left of a line of 16
 taken : (c : After-fold)
-    → Taken 3 8 (line 16 c.args.src.now c.loop-j.j) c.fold.new.e c.fold.new.o (map (λ z. z) c.wide_rows-rows.result.eight)
+    → Taken 3 8 (line 16 c.args.src.now c.loop-j.j) c.fold.new.e c.fold.new.o
+    (map (λ z. z) c.wide_rows-rows.result.eight)
     (map (λ z. z) c.fold.new.o)
 taken c =
     record {
@@ -38,10 +39,12 @@ loop-j-preserved c =
     let l = c.loop-j in
     let b = c.odd_half.new.b in
     let lb : length b ≡ 8 = omega arith in
-    columns_more (λ j k. stage_at matrix 16 a.src.now j (2 * k + 1)) 8 (2 * a.lines) (λ j. a.lines + j) l.dst _ l.j (at b)
+    columns_more (λ j k. stage_at matrix 16 a.src.now j (2 * k + 1)) 8 (2 * a.lines) (λ j. a.lines + j) l.dst _ l.j
+    (at b)
     (right_column a.lines l.j (omega arith))
     (λ k h.
     odds_held (taken (goal.at.loop-j-preserved c).After-fold) b c.odd_half.ensures k h
     ∙ line_is 16 a.src.now l.j matrix (2 * k + 1))
-    (subst (λ (m : ℕ). Placed (2 * a.lines) (a.lines + l.j) m (at b) l.dst c.store.new.dst) lb (c.store.ensures (pos 0)))
+    (subst (λ (m : ℕ). Placed (2 * a.lines) (a.lines + l.j) m (at b) l.dst c.store.new.dst) lb
+    (c.store.ensures (pos 0)))
     l.invariant

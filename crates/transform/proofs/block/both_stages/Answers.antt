@@ -28,82 +28,100 @@ seconds lh lw w b a e = subst (λ (n : ℕ). Staged matrix (λ z. z) lh n b a n)
 
 -- the first stage of the block
 module _ (c : After-stage) where
-  first : Staged matrix (λ z. z) c.args.width.log2 (2 ^ c.args.height.log2) c.args.block.now c.stage.new.dst (2 ^ c.args.height.log2)
+  first : Staged matrix (λ z. z) c.args.width.log2 (2 ^ c.args.height.log2) c.args.block.now c.stage.new.dst
+      (2 ^ c.args.height.log2)
   first =
-      widened_stage c.args.width.log2 c.args.height.log2 c.args.width.in_range.1 c.args.height.in_range.1 c.args.block.now c.requires.block_len.0
+      widened_stage c.args.width.log2 c.args.height.log2 c.args.width.in_range.1 c.args.height.in_range.1
+      c.args.block.now c.requires.block_len.0
       c.requires.by_index c.widen.new.wide (omega arith) c.widen.ensures c.length.result c.stage.new.dst
       c.length.ensures.0 c.stage.ensures
 
 pub stage-requires-clause-room : goal.stage-requires-clause-room
 stage-requires-clause-room c =
-    let a = c.args in (
+    let w = c.args.width in
+    let h = c.args.height in (
       c.length.ensures.1,
-      widened_room a.width.log2 a.height.log2 a.width.in_range.1 a.height.in_range.1 a.block.now c.requires.block_len.0 c.requires.by_index c.widen.new.wide
+      widened_room w.log2 h.log2 w.in_range.1 h.in_range.1 c.args.block.now c.requires.block_len.0 c.requires.by_index
+          c.widen.new.wide
           (omega arith) c.widen.ensures,
     )
 
 pub half_stage-requires : goal.half_stage-requires
 half_stage-requires c =
-    let a = c.args in
+    let w = c.args.width in
+    let h = c.args.height in
     let lr = c.requires.block_len.0 in
     let stage = (goal.at.half_stage-requires c).After-stage in
     let t = c.if-width-height-eq10.true in (
-      largest _ a.width.log2 a.height.log2 (omega arith) t,
-      largest _ a.width.log2 a.height.log2 (omega arith) t,
+      largest _ w.log2 h.log2 (omega arith) t,
+      largest _ w.log2 h.log2 (omega arith) t,
       λ i g.
           omega (
             arith,
-            first_within a.width.log2 a.height.log2 a.width.in_range.1 a.height.in_range.1 a.block.now lr c.requires.by_index c.stage.new.dst (first stage) i
-                (omega (arith, largest _ a.width.log2 a.height.log2 lr t, lr)),
-            pow_mono {i = a.width.log2} {j = 5} a.width.in_range.1,
+            first_within w.log2 h.log2 w.in_range.1 h.in_range.1 c.args.block.now lr c.requires.by_index
+                c.stage.new.dst (first stage) i
+                (omega (arith, largest _ w.log2 h.log2 lr t, lr)),
+            pow_mono {i = w.log2} {j = 5} w.in_range.1,
           ),
     )
 
 pub settle-requires-clause-by_index : goal.settle-requires-clause-by_index
 settle-requires-clause-by_index c =
-    let a = c.args in
+    let w = c.args.width in
+    let h = c.args.height in
     let b = c.stage.new.dst in
     let t = c.if-width-height-eq10.true in
-    λ i q. settle_within a.width.log2 a.height.log2 a.width.in_range.1 a.height.in_range.1 a.block.now c.requires.block_len.0 c.requires.by_index b
+    λ i q. settle_within w.log2 h.log2 w.in_range.1 h.in_range.1 c.args.block.now c.requires.block_len.0
+    c.requires.by_index b
     (first (goal.at.settle-requires-clause-by_index c).After-stage) half c.half_stage.new.dst
-    (halves a.width.log2 a.height.log2 a.width.in_range.1 a.height.in_range.1 t b c.half_stage.new.dst c.half_stage.ensures) 16 (half_same a.width.log2 a.height.log2 t)
-    (half_less a.width.log2 a.height.log2 t) i (omega arith)
+    (halves w.log2 h.log2 w.in_range.1 h.in_range.1 t b c.half_stage.new.dst c.half_stage.ensures) 16
+    (half_same w.log2 h.log2 t)
+    (half_less w.log2 h.log2 t) i (omega arith)
 
 pub returns-then-width-height-eq10 : goal.returns-then-width-height-eq10
 returns-then-width-height-eq10 c =
-    let a = c.args in
+    let w = c.args.width in
+    let h = c.args.height in
     let b = c.stage.new.dst in
     let t = c.if-width-height-eq10.true in
-    settled a.width.log2 a.height.log2 a.width.in_range.1 a.height.in_range.1 a.block.now c.requires.block_len.0 c.requires.by_index b
+    settled w.log2 h.log2 w.in_range.1 h.in_range.1 c.args.block.now c.requires.block_len.0 c.requires.by_index b
     (first (goal.at.returns-then-width-height-eq10 c).After-stage) half c.half_stage.new.dst
-    (halves a.width.log2 a.height.log2 a.width.in_range.1 a.height.in_range.1 t b c.half_stage.new.dst c.half_stage.ensures) 16 (half_same a.width.log2 a.height.log2 t)
-    (half_less a.width.log2 a.height.log2 t) c.settle.new.block (omega arith) (λ i q. c.settle.ensures i (omega arith))
+    (halves w.log2 h.log2 w.in_range.1 h.in_range.1 t b c.half_stage.new.dst c.half_stage.ensures) 16
+    (half_same w.log2 h.log2 t)
+    (half_less w.log2 h.log2 t) c.settle.new.block (omega arith) (λ i q. c.settle.ensures i (omega arith))
 
 pub stage-requires-else-width-height-eq10-clause-room : goal.stage-requires-else-width-height-eq10-clause-room
 stage-requires-else-width-height-eq10-clause-room c =
-    let a = c.args in (
+    let w = c.args.width in
+    let h = c.args.height in (
       c.length-else-width-height-eq10.ensures.1,
-      second_room a.width.log2 a.height.log2 a.width.in_range.1 a.height.in_range.1 a.block.now c.requires.block_len.0 c.requires.by_index c.stage.new.dst
+      second_room w.log2 h.log2 w.in_range.1 h.in_range.1 c.args.block.now c.requires.block_len.0 c.requires.by_index
+          c.stage.new.dst
           (first (goal.at.stage-requires-else-width-height-eq10-clause-room c).After-stage) (omega arith) (omega arith),
     )
 
 pub settle-requires-else-width-height-eq10-clause-by_index : goal.settle-requires-else-width-height-eq10-clause-by_index
 settle-requires-else-width-height-eq10-clause-by_index c =
-    let a = c.args in
+    let w = c.args.width in
+    let h = c.args.height in
     let b = c.stage.new.dst in
     let sums = c.stage-else-width-height-eq10.new.dst in
-    λ i q. settle_within a.width.log2 a.height.log2 a.width.in_range.1 a.height.in_range.1 a.block.now c.requires.block_len.0 c.requires.by_index b
+    λ i q. settle_within w.log2 h.log2 w.in_range.1 h.in_range.1 c.args.block.now c.requires.block_len.0
+    c.requires.by_index b
     (first (goal.at.settle-requires-else-width-height-eq10-clause-by_index c).After-stage) (λ z. z) sums
-    (seconds a.height.log2 a.width.log2 c.length-else-width-height-eq10.result b sums c.length-else-width-height-eq10.ensures.0 c.stage-else-width-height-eq10.ensures)
-    (7 + a.width.log2 + a.height.log2) (λ z. refl) (λ z k. k) i (omega arith)
+    (seconds h.log2 w.log2 c.length-else-width-height-eq10.result b sums c.length-else-width-height-eq10.ensures.0
+    c.stage-else-width-height-eq10.ensures)
+    (7 + w.log2 + h.log2) (λ z. refl) (λ z k. k) i (omega arith)
 
 pub returns-else-width-height-eq10 : goal.returns-else-width-height-eq10
 returns-else-width-height-eq10 c =
-    let a = c.args in
+    let w = c.args.width in
+    let h = c.args.height in
     let b = c.stage.new.dst in
     let sums = c.stage-else-width-height-eq10.new.dst in
-    settled a.width.log2 a.height.log2 a.width.in_range.1 a.height.in_range.1 a.block.now c.requires.block_len.0 c.requires.by_index b
+    settled w.log2 h.log2 w.in_range.1 h.in_range.1 c.args.block.now c.requires.block_len.0 c.requires.by_index b
     (first (goal.at.returns-else-width-height-eq10 c).After-stage) (λ z. z) sums
-    (seconds a.height.log2 a.width.log2 c.length-else-width-height-eq10.result b sums c.length-else-width-height-eq10.ensures.0 c.stage-else-width-height-eq10.ensures)
-    (7 + a.width.log2 + a.height.log2) (λ z. refl) (λ z k. k) c.settle-else-width-height-eq10.new.block (omega arith)
+    (seconds h.log2 w.log2 c.length-else-width-height-eq10.result b sums c.length-else-width-height-eq10.ensures.0
+    c.stage-else-width-height-eq10.ensures)
+    (7 + w.log2 + h.log2) (λ z. refl) (λ z k. k) c.settle-else-width-height-eq10.new.block (omega arith)
     (λ i q. c.settle-else-width-height-eq10.ensures i (omega arith))
