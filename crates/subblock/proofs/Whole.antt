@@ -1,6 +1,6 @@
 -- The three-component call from its components: of each, what it answers and leaves past its early tests is what the
 -- definition says of it, so that the call is the definition's.
-use mathlib.Core.Path.{◌≡◌, refl, sym, ap, ◌∙◌}
+use mathlib.Core.Path.{◌≡◌, refl, ap, ◌∙◌}
 use mathlib.Core.Bool.{Bool, true, false, cond}
 use mathlib.Core.List.{List}
 use lib.IntN.{ℤ}
@@ -18,7 +18,7 @@ use Rattle.components.specs.Inner.Groups.{late_faults, EarlyPassed}
 use Rattle.components.proofs.Alone.{quantiser_alone_is_late}
 use Rattle.components.proofs.Answer.{answer_alone, buffer_alone}
 use Rattle.components.proofs.Late.{late_of, verdict_in_groups}
-use Rattle.stretch.specs.Inner.Part.{quant_in, part_answer, part_left}
+use Rattle.stretch.specs.Inner.Part.{part_answer, part_left}
 use Rattle.turns.specs.Inner.Parts.{Called}
 use Rattle.turns.proofs.Alone.{quant_is}
 use Rattle.turns.proofs.Finished.{Known, ends}

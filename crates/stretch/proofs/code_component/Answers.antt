@@ -1,11 +1,10 @@
 -- `stretch::code_component` meets its contract: a component that is run is transformed, which is accepted, and
 -- quantised by the definition's call; one that is not run is left alone.
 use mathlib.Core.Path.{◌≡◌, sym, ap, ◌∙◌}
-use mathlib.Core.Bool.{true, false}
+use mathlib.Core.Bool.{true}
 use Rattle.price.specs.Costs.{costs_of}
 use Rattle.coding.specs.declared.Coding.{Coding}
 use Rattle.components.specs.Call.{bit}
-use Rattle.stretch.specs.Inner.Part.{part_answer, part_left}
 use Rattle.stretch.proofs.OneComponent.{not_run, trans_passes, part_coded}
 use Rattle.stretch.proofs.code_component.Goals as goal
 
