@@ -6,6 +6,7 @@
 ghost use Rattle.std.specs.Prelude.{◌≡◌, ◌+◌, ◌≤◌, length};
 ghost use Rattle.text.specs.Text.{printed, printed_sample, Put};
 
+// Kept: the room and the place in it are two parameters: protocol's `answer` lends the room, and Written speaks of it.
 // The digits of a tenth, and then the last.
 pub fn put_natural(out: &mut [u8], at: usize, value: u64) -> usize
     requires { at + 20 ≤ length out.old }
