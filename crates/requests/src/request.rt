@@ -38,6 +38,7 @@ pub fn read_count(words: &mut Words, most: u64) -> Option<usize>
 }
 
 // Numbers of 32 bits, as many as there is room for.
+// Kept: a loop beside read_fields' and read_samples': what they share is take_word; a closure for the rest is longer.
 fn read_numbers(words: &mut Words, room: &mut [u32]) -> Option<()>
     ensures { fields_of (list_kinds (length room.old)) (left words.old)
         ≡ option_map (λ _. (room.new, left words.new)) result }
