@@ -75,7 +75,6 @@ Handed before c after (More rest) = Asked before c after rest
 abbrev pub grown : Cursor → ℕ → Cursor
 grown c n = record { from = c.from; have = c.have + n; passing = c.passing }
 
-
 -- a read changes nothing of what stands before the bytes that it brings
 abbrev pub Kept : List ℕ → Cursor → List ℕ → Type 0
 Kept before c after = take c.have after ≡ take c.have before

@@ -6,9 +6,8 @@ ghost use Rattle.std.specs.Prelude.{◌<◌, length};
 ghost use Rattle.input.specs.Lines.{Within};
 
 use input::{Cursor, Line, Tail};
-use std::fmt;
-use std::io;
 use std::io::{Input, Print, Read};
+use std::{fmt, io};
 
 // Why it has ended before the input.
 #[derive(Drop)]
