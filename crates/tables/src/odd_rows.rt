@@ -19,6 +19,7 @@ pub struct OddRows<T: Number> {
     pub ghost sixteens: { map T.value sixteen ≡ odd_rows 16 },
 }
 
+// Kept: the same numbers in both widths. Over the narrow ones a line of 32 takes 484 instructions in place of 409.
 const WIDE: OddRows<i32> = OddRows {
     two: ODD_2,
     four: ODD_4,
