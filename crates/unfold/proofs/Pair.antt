@@ -19,7 +19,8 @@ use Rattle.unfold.specs.Inner.Back.{value_at, Back}
 use Rattle.unfold.proofs.Level.{value_bound}
 
 -- 64 times f p q, f the sum or the difference
-module _ (f : ℤ → ℤ → ℤ) (p q : ℤ) (fp : SFits w16 p) (fq : SFits w16 q) (hf : nat_abs (f p q) ≤ nat_abs p + nat_abs q) where
+module _ (f : ℤ → ℤ → ℤ) (p q : ℤ) (fp : SFits w16 p) (fq : SFits w16 q)
+    (hf : nat_abs (f p q) ≤ nat_abs p + nat_abs q) where
   pub pair_fits : SFits w32 (f p q)
   pair_fits = fits (f p q) (omega (arith, magnitude_of p fp, magnitude_of q fq))
 

@@ -1,6 +1,6 @@
-// The butterflies of the inverse: a line of 2, 4 or 8 coefficients of 16 bits, handed over as the part of the block that
-// it occupies, back to values; and the halves of longer lines. All sums are of 32 bits: whatever 16-bit numbers go in,
-// they fit.
+// The butterflies of the inverse: a line of 2, 4 or 8 coefficients of 16 bits, handed over as the part of the block
+// that it occupies, back to values; and the halves of longer lines. All sums are of 32 bits: whatever 16-bit numbers go
+// in, they fit.
 #![tactic(auto)]
 
 ghost use Rattle.std.specs.Prelude.{◌≡◌, ℕ, ◌+◌, ◌^◌, ◌<◌, ◌≤◌, length, map, nat_abs, ◌*ℤ◌};

@@ -63,5 +63,5 @@ returns c =
     let e₁ = value_1 (at x) in
     let e₂ = value_2 (at x) in
     let e₃ = value_3 (at x) in
-    four_listed (last_of (at x)) _ _ _ _ (grind (arith, to_z-of_z)) (grind (arith, to_z-of_z)) (grind (arith, to_z-of_z))
-    (grind (arith, to_z-of_z))
+    four_listed (last_of (at x)) _ _ _ _ (grind (arith, to_z-of_z)) (grind (arith, to_z-of_z))
+    (grind (arith, to_z-of_z)) (grind (arith, to_z-of_z))

@@ -12,4 +12,5 @@ loop-k-preserved c =
     let block = c.args.block.now in
     let l = c.loop-k in
     columns_of_four_more (λ j i. at block (j * 4 + i)) c.args.n l.turned c.store.new.dst (line 4 block l.k) l.k
-    (omega arith) (line_length 4 block l.k (omega arith)) (line_at_lem 4 block l.k) (c.store.ensures (pos 0)) l.invariant
+    (omega arith) (line_length 4 block l.k (omega arith)) (line_at_lem 4 block l.k)
+    (c.store.ensures (pos 0)) l.invariant

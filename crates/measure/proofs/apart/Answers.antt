@@ -18,7 +18,8 @@ loop-r-preserved c =
     let r = c.args.residuals.now in
     let s = c.args.shown.now in
     let l = c.loop-r in
-    let t = zip_turn r s l.yielded c.into_iter-r-iterator.result c.loop-r.r-iterator c.next.new.self _ (cc) (cc) l.yielded_by (c.in-Some.r, c.in-Some.s) c.in-Some.is c.next.ensures.steps in
+    let t = zip_turn r s l.yielded c.into_iter-r-iterator.result l.r-iterator c.next.new.self _ (cc) (cc) l.yielded_by
+    (c.in-Some.r, c.in-Some.s) c.in-Some.is c.next.ensures.steps in
     let er = t.2 (pos 0) in
     let es = t.3 (pos 0) in
     let n = length_push l.yielded (c.in-Some.r, c.in-Some.s) in
@@ -26,6 +27,8 @@ loop-r-preserved c =
 
 pub returns : goal.returns
 returns c =
-    let e = zip_end c.args.residuals.now c.args.shown.now c.loop-r.yielded c.into_iter-r-iterator.result c.loop-r.r-iterator c.next.new.self _ (cc) (cc) c.loop-r.yielded_by c.in-None.is c.next.ensures.steps in
+    let l = c.loop-r in
+    let e = zip_end c.args.residuals.now c.args.shown.now l.yielded c.into_iter-r-iterator.result l.r-iterator
+    c.next.new.self _ (cc) (cc) l.yielded_by c.in-None.is c.next.ensures.steps in
     let long : length c.loop-r.yielded ≡ length c.args.residuals.now = omega arith in
     (cc, cc)

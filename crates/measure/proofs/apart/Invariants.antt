@@ -6,4 +6,5 @@ use Rattle.measure.proofs.apart.Given as goal
 
 abbrev pub invariant-loop-r : goal.invariant-loop-r
 invariant-loop-r l =
-    (l.darker ≡ darker (length l.yielded) l.residuals l.shown) × (l.lighter ≡ lighter (length l.yielded) l.residuals l.shown)
+    (l.darker ≡ darker (length l.yielded) l.residuals l.shown)
+    × (l.lighter ≡ lighter (length l.yielded) l.residuals l.shown)

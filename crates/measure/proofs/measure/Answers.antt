@@ -12,7 +12,8 @@ unfolding measure_answer measure_verdict
 returns c =
     let a = c.args in
     let found =
-    c.look.ensures ∙ extremes_front back c.in_ok-side.side.log2 c.in_ok-qp.qp.qp a.residuals.now a.levels.now c.length-a.result
+    c.look.ensures
+    ∙ extremes_front back c.in_ok-side.side.log2 c.in_ok-qp.qp.qp a.residuals.now a.levels.now c.length-a.result
     c.length-a.ensures.0 in
     let e = rw (c.in_ok-side.ensures.0, c.in_ok-qp.ensures.0) at found in
     let long = rw c.in_ok-side.ensures.0 at c.length-a.ensures.0 in

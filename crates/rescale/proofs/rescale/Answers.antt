@@ -33,8 +33,10 @@ whole-requires c =
     let s = c.back_scale-s.result in
     let l = c.args.side.log2 in
     let qp = c.args.qp.qp in
-    let e = c.back_scale-s.ensures in (
-      omega (arith, times_is s l qp e c.args.side.in_range.0 c.args.qp.in_range, times_small s l qp e c.args.side.in_range.0 c.args.qp.in_range),
+    let e = c.back_scale-s.ensures in
+    let low = c.args.side.in_range.0 in
+    let fine = c.args.qp.in_range in (
+      omega (arith, times_is s l qp e low fine, times_small s l qp e low fine),
       omega arith,
       omega arith,
     )

@@ -54,5 +54,6 @@ returns c =
     let w = whole_fits level times half l c.requires.0 c.requires.1 in
     let z = shr_z (level *ℤ times +ℤ pos half) (2 ^ c.args.down) in
     let f : SFits w32 z = shift_fits w32 (level *ℤ times +ℤ pos half) (2 ^ c.args.down) w in
-    let e : c.clip.result ≡ clipped z = simp (c.from.ensures, c.from-2.ensures, to_z-of_z, half_is half c.requires.1) at c.clip.ensures in
+    let e : c.clip.result ≡ clipped z =
+    simp (c.from.ensures, c.from-2.ensures, to_z-of_z, half_is half c.requires.1) at c.clip.ensures in
     ap (λ (y : ℤ). to_z w16 (of_z w16 y)) e ∙ to_z-of_z (clipped_fits z)

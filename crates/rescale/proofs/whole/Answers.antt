@@ -34,8 +34,8 @@ loop-k-preserved c =
     let a = c.args in
     let start = 64 * l.k in
     let ends : start + (start + 64 - start) ≡ 64 * (l.k + 1) = omega arith in
-    subst (λ (n : ℕ). Replaced (stepped (pos a.times) a.half a.down) a.block.now n (put_mid start (start + 64 - start) l.block c.part.new.block))
-    ends
+    let f = stepped (pos a.times) a.half a.down in
+    subst (λ (n : ℕ). Replaced f a.block.now n (put_mid start (start + 64 - start) l.block c.part.new.block)) ends
     (part_replaced a.times a.half a.down a.block.now l.block c.part.new.block start (start + 64 - start) c.requires.0
     (omega arith) c.part.ensures l.invariant)
 

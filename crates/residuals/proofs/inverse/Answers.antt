@@ -10,5 +10,7 @@ pub returns-clause-buffer : goal.returns-clause-buffer
 unfolding inverse_buffer inverse_verdict
 returns-clause-buffer c =
     let a = c.args in
-    let e = c.restore.ensures ∙ residuals_front a.block.now c.length.result c.length-2.result _ _ c.length.ensures.0 c.length-2.ensures.0 in
+    let w = c.length in
+    let h = c.length-2 in
+    let e = c.restore.ensures ∙ residuals_front a.block.now w.result h.result _ _ w.ensures.0 h.ensures.0 in
     grind (arith, nat_tests)

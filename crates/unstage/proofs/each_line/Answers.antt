@@ -7,4 +7,5 @@ use Rattle.unstage.proofs.each_line.Goals as goal
 pub loop-j-preserved : goal.loop-j-preserved
 loop-j-preserved g c =
     values_more c.args.side.log2 g.row.N c.requires.side.0 c.args.src.now c.loop-j.j c.args.lines c.loop-j.dst
-    c.store.new.dst c.back.new.row (omega arith) (omega arith) c.back.ensures (c.store.ensures (pos 0)) c.loop-j.invariant
+    c.store.new.dst c.back.new.row (omega arith) (omega arith) c.back.ensures (c.store.ensures (pos 0))
+    c.loop-j.invariant

@@ -1,23 +1,28 @@
 -- `residuals::block::both_stages` meets its contract: the second stage on either part of what the first left, joined, is
 -- the double sum, rounded and clipped.
 use mathlib.Core.Path.{◌≡◌}
-use Prim.Native.Nat.{◌*◌, ◌^◌, ◌<◌}
+use Prim.Native.Nat.{ℕ, ◌*◌, ◌^◌, ◌<◌, ◌≤◌}
 use native.Mathlib.Omega.{arith}
 use lib.ListN.{length}
+use lib.IntN.{nat_abs}
+use Rattle.integers.specs.Sum.{at}
+use Rattle.unfold.specs.Inner.Back.{most_value}
 use Rattle.residuals.proofs.Whole.{first_within, high_within, low_within, settled}
 use Rattle.residuals.proofs.block.both_stages.Goals as goal
+use Rattle.residuals.proofs.block.both_stages.Goals.{After-unstage}
+
+-- what the first stage left, which both parts are made of
+first_small : (c : After-unstage) → (i : ℕ) → i < length c.unstage.new.dst → nat_abs (at c.unstage.new.dst i) ≤ most_value
+first_small c =
+    let z = c.length-h in
+    first_within c.args.width.log2 c.args.height.log2 c.args.width.in_range.1 c.args.height.in_range.1
+    c.args.block.now c.unstage.new.dst z.result z.ensures.0 c.unstage.ensures (omega (arith, c.requires.0))
 
 pub high-requires-clause-by_index : goal.high-requires-clause-by_index
-high-requires-clause-by_index c =
-    let z = c.length-h in
-    first_within c.args.width.log2 c.args.height.log2 c.args.width.in_range.1 c.args.height.in_range.1 c.args.block.now c.unstage.new.dst
-    z.result z.ensures.0 c.unstage.ensures (omega (arith, c.requires.0))
+high-requires-clause-by_index c = first_small (goal.at.high-requires-clause-by_index c).After-unstage
 
 pub low-requires-clause-by_index : goal.low-requires-clause-by_index
-low-requires-clause-by_index c =
-    let z = c.length-h in
-    first_within c.args.width.log2 c.args.height.log2 c.args.width.in_range.1 c.args.height.in_range.1 c.args.block.now c.unstage.new.dst
-    z.result z.ensures.0 c.unstage.ensures (omega (arith, c.requires.0))
+low-requires-clause-by_index c = first_small (goal.at.low-requires-clause-by_index c).After-unstage
 
 pub join-requires-clause-by_index : goal.join-requires-clause-by_index
 join-requires-clause-by_index c =

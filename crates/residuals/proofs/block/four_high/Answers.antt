@@ -18,7 +18,8 @@ last_columns-requires c =
       w.ensures.1,
       long ∙ ap (λ (m : ℕ). m * 4) (sym w.ensures.0),
       c.requires.0 ∙ mul_comm (2 ^ lw) 4 ∙ ap (λ (m : ℕ). 4 * m) (sym w.ensures.0),
-      first_within lw 2 c.args.width.in_range.1 (omega arith) c.args.block.now c.unstage.new.dst 4 refl c.unstage.ensures long,
+      first_within lw 2 c.args.width.in_range.1 (omega arith) c.args.block.now c.unstage.new.dst 4 refl
+          c.unstage.ensures long,
     )
 
 pub returns : goal.returns
@@ -27,8 +28,8 @@ returns c =
     let x = c.unstage.new.dst in
     let out = c.last_columns.new.block in
     let long : length x ≡ 2 ^ c.args.width.log2 * 2 ^ 2 = omega (arith, c.requires.0) in
-    settled_columns c.args.width.log2 2 c.args.width.in_range.1 (omega arith) c.args.block.now x 4 refl c.unstage.ensures
-    long out (omega (arith, c.requires.0))
+    settled_columns c.args.width.log2 2 c.args.width.in_range.1 (omega arith) c.args.block.now x 4 refl
+    c.unstage.ensures long out (omega (arith, c.requires.0))
     (λ u y hu hy.
     subst (λ (m : ℕ). at out (y * m + u) ≡ last_at x u y) w.ensures.0
     (c.last_columns.ensures u y (subst (λ (m : ℕ). u < m) (sym w.ensures.0) hu) hy))

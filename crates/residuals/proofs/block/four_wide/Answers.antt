@@ -17,7 +17,8 @@ last_rows-requires c =
       h.ensures.1,
       long ∙ ap (λ (m : ℕ). m * 4) (sym h.ensures.0),
       c.requires.0 ∙ mul_comm 4 (2 ^ lh) ∙ ap (λ (m : ℕ). m * 4) (sym h.ensures.0),
-      first_within lh 2 c.args.height.in_range.1 (omega arith) c.turn.new.turned c.unstage.new.dst 4 refl c.unstage.ensures long,
+      first_within lh 2 c.args.height.in_range.1 (omega arith) c.turn.new.turned c.unstage.new.dst 4 refl
+          c.unstage.ensures long,
     )
 
 pub returns : goal.returns
