@@ -1,5 +1,5 @@
 -- What a line asks for along the parts that were read of it: nothing where one is missing, else the request.
-use Rattle.std.proofs.Common.{◌≡◌, refl, ap, ◌∙◌, ℕ, ℤ, List, ◌∷◌, Some, None, ◌*◌, ◌-◌, ◌≤◌, length, take, arith}
+use Rattle.std.proofs.Common.{◌≡◌, refl, ◌∙◌, ℕ, ℤ, List, ◌∷◌, Some, None, ◌*◌, ◌-◌, ◌≤◌, length, take}
 use lib.Seq.{length-take-le}
 use Rattle.verbs.specs.declared.Verb.{Verb}
 use Rattle.verbs.specs.Verbs.{verb_of}

@@ -1,5 +1,5 @@
 -- The parts of the line are read as the definition reads them, and the reply to the call answers the request.
-use Rattle.std.proofs.Common.{◌≡◌, ◌≤◌, length, take, sym, ap, ◌∙◌, arith}
+use Rattle.std.proofs.Common.{sym, ap, ◌∙◌, arith}
 use lib.Seq.{length-take-le}
 use Rattle.requests.proofs.Asked.{no_words, verb_malformed}
 use Rattle.protocol.specs.Answer.{answer_of, answer_to}
