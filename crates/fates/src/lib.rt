@@ -5,6 +5,7 @@
 ghost use Rattle.std.specs.Prelude.{◌≡◌, ◌+◌, ◌≤◌};
 ghost use Rattle.fates.specs.Fate.{fate_of, fate_at, counted, Most};
 
+use refusals::ranges::{Qp, Side};
 use scaling::scale::Scale;
 use std::fmt::{Display, Formatter, Result, Write};
 use std::ops::Add;
@@ -35,11 +36,10 @@ fn judged(m: u64, level: u64) -> Fate
 }
 
 // Of a coefficient c of a block of side 8.
-pub fn became(c: i16, level: i16, qp: u32) -> Fate
-    requires { qp ≤ 63 }
-    ensures { result ≡ fate_at qp c level }
+pub fn became(c: i16, level: i16, qp: Qp) -> Fate
+    ensures { result ≡ fate_at qp.qp c level }
 {
-    let m = Scale::of(3, qp).rounded(u32::from(c.unsigned_abs()));
+    let m = Scale::of(Side { log2: 3 }, qp).rounded(u32::from(c.unsigned_abs()));
     judged(m, u64::from(level.unsigned_abs()))
 }
 

@@ -21,6 +21,7 @@ use lines::{put_block, put_head, put_made, put_shown, put_sum};
 use page::{Levels, Samples};
 use picture::{Block, Pictures, Size, by_rows};
 use price::Settings;
+use refusals::ranges::Qp;
 use refusals::{Refusal, Refused, Three};
 use residuals::{inverse, scale_back};
 use shown::{block_apart, views};
@@ -102,7 +103,7 @@ fn make(residuals: [i16; 96], block: Block, asked: Asked) -> Result<Made, Unmade
         levels: Levels {
             coefficients,
             levels,
-            qp: asked.qp,
+            qp: Qp { qp: asked.qp },
         },
         coded,
         residuals,

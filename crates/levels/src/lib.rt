@@ -4,12 +4,12 @@
 #![tactic(auto)]
 
 ghost use Rattle.std.specs.Prelude.{◌≤◌, ◌^◌};
-ghost use Rattle.refusals.specs.Sides.{most_log2};
 ghost use Rattle.coding.specs.Block.{written_in};
 ghost use Rattle.weights.specs.Inner.Chosen.{Blank, ChosenBy};
 ghost use Rattle.levels.specs.Inner.Levels.{Lent, Codable, CodedAs};
 
 use coding::{Coded, Mode};
+use refusals::ranges::Side;
 use scan::Scan;
 use search::find_levels;
 use signs::{keep, put_signs};
@@ -31,7 +31,7 @@ fn choose(kept: Kept, levels: &mut [u16], mode: Mode) -> u64
 // The levels of a block whose D is d, and what they cost, worked out in rooms that have the block's length.
 pub fn code_in(
     block: &mut [i16],
-    log2_side: usize,
+    side: Side,
     weights: Weights,
     d: u64,
     mode: Mode,
@@ -39,12 +39,11 @@ pub fn code_in(
     kept: &mut [u16],
     levels: &mut [u16],
 ) -> Coded
-    requires { (1 ≤ log2_side) × (log2_side ≤ most_log2)
-        × Codable weights.prices weights.scale (2 ^ log2_side) (2 ^ log2_side) block.old d
+    requires { Codable weights.prices weights.scale (2 ^ side.log2) (2 ^ side.log2) block.old d
         × Lent block.old scan.old kept.old levels.old }
-    ensures { CodedAs mode weights.prices weights.scale (2 ^ log2_side) (2 ^ log2_side) block.old block.new result }
+    ensures { CodedAs mode weights.prices weights.scale (2 ^ side.log2) (2 ^ side.log2) block.old block.new result }
 {
-    let scan = Scan::square(log2_side, scan);
+    let scan = Scan::square(side, scan);
     let count = keep(block, kept, weights.scale);
     let all = Kept {
         magnitudes: kept,

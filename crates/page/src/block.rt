@@ -4,6 +4,7 @@ ghost use Rattle.integers.specs.Sum.{at};
 ghost use Rattle.fates.specs.Fate.{fate_at, block_tally, Most};
 
 use fates::{Fate, Tally, became};
+use refusals::ranges::Qp;
 use std::fmt::{Display, Formatter, Result, Write};
 
 // Samples right-aligned in four bytes each, with a blank behind each.
@@ -43,22 +44,21 @@ impl Display for Samples<'_> {
 pub struct Levels {
     pub coefficients: [i16; 96],
     pub levels: [i16; 96],
-    pub qp: u32,
-    pub ghost known: { qp ≤ 63 },
+    pub qp: Qp,
 }
 
 impl Levels {
     // What became of the one at place i.
     fn fate(&self, i: usize) -> Fate
         requires { i < 64 }
-        ensures { result ≡ fate_at self.now.qp (at self.now.coefficients i) (at self.now.levels i) }
+        ensures { result ≡ fate_at self.now.qp.qp (at self.now.coefficients i) (at self.now.levels i) }
     {
         became(self.coefficients[i], self.levels[i], self.qp)
     }
 
     // How many were kept, lowered and dropped.
     pub fn tally(&self) -> Tally
-        ensures { (result ≡ block_tally self.now.qp self.now.coefficients self.now.levels) × Most 64 result }
+        ensures { (result ≡ block_tally self.now.qp.qp self.now.coefficients self.now.levels) × Most 64 result }
     {
         let mut tally = Tally::default();
         for i in 0..64 {

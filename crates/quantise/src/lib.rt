@@ -14,6 +14,7 @@ use coefficients::distortion::{small_squares, uncoded};
 use coefficients::skip::{largest, skipped_top};
 use contexts::Contexts;
 use price::{costs_of, costs_refused, lambda_refused, lambda_whole};
+use refusals::ranges::{Qp, Side};
 use refusals::{Refusal, Refused, no_side, side};
 use rooms::code_levels;
 use scaling::scale::{Scale, skip_threshold};
@@ -63,10 +64,12 @@ fn code_block(block: &mut [i16], costs: &[u64; 28], coding: Coding) -> Result<Co
     ensures buffer { block.new ≡ quant_buffer (called block.old (costs_of costs.now) coding) }
 {
     let settings = coding.settings;
-    let scale = Scale::of(coding.log2, settings.qp);
+    let side = Side { log2: coding.log2 };
+    let qp = Qp { qp: settings.qp };
+    let scale = Scale::of(side, qp);
     let lambda = lambda_whole(settings.lambda);
     let at = Contexts::of(coding.component, coding.intra_coded);
-    let threshold = skip_threshold(coding.log2, settings.qp, coding.intra_slice);
+    let threshold = skip_threshold(side, qp, coding.intra_slice);
     if let Some(top) = skipped_top(block, scale.q, threshold) {
         let empty = at.empty_price(costs, lambda);
         return Ok(skip_block(block, scale, top, empty));
@@ -88,7 +91,7 @@ fn code_block(block: &mut [i16], costs: &[u64; 28], coding: Coding) -> Result<Co
     }
     let prices = at.prices(costs_of(costs), lambda);
     let weights = Weights { prices, scale };
-    Ok(code_levels(block, coding.log2, weights, d, coding.mode))
+    Ok(code_levels(block, side, weights, d, coding.mode))
 }
 
 // evce_quant_nnz for a square block: the levels in place of the coefficients, their count and their price.

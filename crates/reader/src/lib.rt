@@ -11,6 +11,7 @@ ghost use Rattle.squares.specs.Inner.Beside.{Square};
 ghost use Rattle.reader.specs.Inner.Blocks.{laid_over};
 
 use packing::{overfull, unpack};
+use refusals::ranges::Side;
 use runs::Symbol;
 use scan::{Scan, put, scan_place};
 
@@ -70,7 +71,7 @@ fn read_with<const N: usize>(list: &[u32], block: &mut [i16], log2_side: usize)
 {
     let n = block.len();
     let mut room = [0u16; N];
-    let scan = Scan::square(log2_side, &mut room[..n]);
+    let scan = Scan::square(Side { log2: log2_side }, &mut room[..n]);
     block.fill(0);
     lay(list, scan, block);
 }

@@ -3,24 +3,24 @@
 #![tactic(auto)]
 
 ghost use Rattle.std.specs.Prelude.{◌≤◌, ◌^◌, length};
-ghost use Rattle.refusals.specs.Sides.{most_log2};
 ghost use Rattle.levels.specs.Inner.Levels.{Codable, CodedAs};
 
 use coding::{Coded, Mode};
 use levels::code_in;
+use refusals::ranges::Side;
 use weights::Weights;
 
 // In rooms of N places, no less than the block has: to clear them takes time.
 fn code_in_rooms<const N: usize>(
     block: &mut [i16],
-    log2_side: usize,
+    side: Side,
     weights: Weights,
     d: u64,
     mode: Mode,
 ) -> Coded
-    requires { (1 ≤ log2_side) × (log2_side ≤ most_log2) × (length block.old ≤ N) × (N ≤ 1024)
-        × Codable weights.prices weights.scale (2 ^ log2_side) (2 ^ log2_side) block.old d }
-    ensures { CodedAs mode weights.prices weights.scale (2 ^ log2_side) (2 ^ log2_side) block.old block.new result }
+    requires { (length block.old ≤ N) × (N ≤ 1024)
+        × Codable weights.prices weights.scale (2 ^ side.log2) (2 ^ side.log2) block.old d }
+    ensures { CodedAs mode weights.prices weights.scale (2 ^ side.log2) (2 ^ side.log2) block.old block.new result }
 {
     let n = block.len();
     let mut scan = [0u16; N];
@@ -28,7 +28,7 @@ fn code_in_rooms<const N: usize>(
     let mut levels = [0u16; N];
     code_in(
         block,
-        log2_side,
+        side,
         weights,
         d,
         mode,
@@ -38,20 +38,13 @@ fn code_in_rooms<const N: usize>(
     )
 }
 
-pub fn code_levels(
-    block: &mut [i16],
-    log2_side: usize,
-    weights: Weights,
-    d: u64,
-    mode: Mode,
-) -> Coded
-    requires { (1 ≤ log2_side) × (log2_side ≤ most_log2)
-        × Codable weights.prices weights.scale (2 ^ log2_side) (2 ^ log2_side) block.old d }
-    ensures { CodedAs mode weights.prices weights.scale (2 ^ log2_side) (2 ^ log2_side) block.old block.new result }
+pub fn code_levels(block: &mut [i16], side: Side, weights: Weights, d: u64, mode: Mode) -> Coded
+    requires { Codable weights.prices weights.scale (2 ^ side.log2) (2 ^ side.log2) block.old d }
+    ensures { CodedAs mode weights.prices weights.scale (2 ^ side.log2) (2 ^ side.log2) block.old block.new result }
 {
-    match log2_side {
-        1..=3 => code_in_rooms::<64>(block, log2_side, weights, d, mode),
-        4 => code_in_rooms::<256>(block, log2_side, weights, d, mode),
-        _ => code_in_rooms::<1024>(block, log2_side, weights, d, mode),
+    match side.log2 {
+        1..=3 => code_in_rooms::<64>(block, side, weights, d, mode),
+        4 => code_in_rooms::<256>(block, side, weights, d, mode),
+        _ => code_in_rooms::<1024>(block, side, weights, d, mode),
     }
 }

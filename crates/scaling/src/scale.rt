@@ -1,9 +1,9 @@
 // What the coefficients of a block are scaled and rounded by, worked out once a block by document 01's row of scales.
 ghost use Rattle.std.specs.Prelude.{◌≡◌, ◌≤◌, ◌*◌, ◌^◌};
-ghost use Rattle.refusals.specs.Sides.{most_log2};
 ghost use Rattle.price.specs.Level.{shift_of, threshold};
 ghost use Rattle.scaling.specs.Inner.Sound.{SoundNumbers};
 
+use refusals::ranges::{Qp, Side};
 use tables::scales::{error_scale, scale};
 
 // q, b, 2^b and its half, and E. q·E and the rest are front·2^20, so that the error of magnitude 0 is worked out in 32
@@ -26,16 +26,15 @@ impl Scale {
     ghost use Rattle.price.specs.Level.{nearest};
     ghost use Rattle.scaling.specs.Inner.Scale.{ScaleOf};
 
-    pub fn of(log2_side: usize, qp: u32) -> Scale
-        requires { (1 ≤ log2_side) × (log2_side ≤ most_log2) × (qp ≤ 63) }
-        ensures { ScaleOf forward log2_side qp result }
+    pub fn of(side: Side, qp: Qp) -> Scale
+        ensures { ScaleOf forward side.log2 qp.qp result }
     {
-        let l = log2_side as u32;
-        let q = scale(qp);
-        let shift = 19 - l + qp / 6;
+        let l = side.log2 as u32;
+        let q = scale(qp.qp);
+        let shift = 19 - l + qp.qp / 6;
         let unit = 1 << shift;
         let half = 1 << (shift - 1);
-        let error = error_scale(log2_side, qp) as u64;
+        let error = error_scale(side, qp.qp) as u64;
         let front: u64 = 1 << (8 + l);
         let rest = front * 1048576 - q as u64 * error;
         let least = (half + q as u64 - 1) / q as u64;
@@ -61,11 +60,10 @@ impl Scale {
 }
 
 // The quick skip clears a block in which every L is below this. It needs no more of the scale than b.
-pub fn skip_threshold(log2_side: usize, qp: u32, intra_slice: bool) -> u64
-    requires { (1 ≤ log2_side) × (log2_side ≤ most_log2) × (qp ≤ 63) }
-    ensures { (result ≡ threshold intra_slice (shift_of log2_side qp)) × (1 ≤ result) × (result ≤ 2 ^ 28) }
+pub fn skip_threshold(side: Side, qp: Qp, intra_slice: bool) -> u64
+    ensures { (result ≡ threshold intra_slice (shift_of side.log2 qp.qp)) × (1 ≤ result) × (result ≤ 2 ^ 28) }
 {
-    let unit: u64 = 1 << (19 - log2_side as u32 + qp / 6);
+    let unit: u64 = 1 << (19 - side.log2 as u32 + qp.qp / 6);
     let share = if intra_slice { 201 } else { 153 };
     unit - share * (unit / 512)
 }

@@ -11,7 +11,7 @@ ghost use Rattle.scan.specs.Scan.{most_places, scan, scan_at, square_scan};
 ghost use Rattle.scan.specs.Scanned.{Scanned};
 
 use crate::scans::SCANS;
-use refusals::side;
+use refusals::ranges::Side;
 
 // A place in scan order, and a place in the block by rows: counts below `most_places`. What they hold is reached in
 // this crate alone, so that only the lookup turns the first into the second, and none can be taken for the other.
@@ -30,12 +30,11 @@ pub struct Scan<'a> {
     pub ghost scanned: { Scanned w h held.now },
 }
 
-// The listed table's part for a side of 2^log2: the diagonal rule's numbers.
-fn listed(log2: usize) -> &'static [u16]
-    requires { (1 ≤ log2) × (log2 ≤ most_log2) }
-    ensures { result.now ≡ square_scan log2 }
+// The listed table's part for a side: the diagonal rule's numbers.
+fn listed(side: Side) -> &'static [u16]
+    ensures { result.now ≡ square_scan side.log2 }
 {
-    match log2 {
+    match side.log2 {
         1 => &SCANS.two,
         2 => &SCANS.four,
         3 => &SCANS.eight,
@@ -45,14 +44,14 @@ fn listed(log2: usize) -> &'static [u16]
 }
 
 impl<'a> Scan<'a> {
-    // Of a square block of side 2^log2, written into the room: taken once a call. Of the table a call writes out the
-    // list of its side alone.
-    pub fn square(log2: usize, room: &'a mut [u16]) -> Scan<'a>
-        requires { (1 ≤ log2) × (log2 ≤ most_log2) × (length room.old ≡ 4 ^ log2) }
-        ensures { (result.w ≡ 2 ^ log2) × (result.h ≡ 2 ^ log2) }
+    // Of a square block, written into the room: taken once a call. Of the table a call writes out the list of its side
+    // alone.
+    pub fn square(side: Side, room: &'a mut [u16]) -> Scan<'a>
+        requires { length room.old ≡ 4 ^ side.log2 }
+        ensures { (result.w ≡ 2 ^ side.log2) × (result.h ≡ 2 ^ side.log2) }
     {
-        room.copy_from_slice(listed(log2));
-        let a = side(log2);
+        room.copy_from_slice(listed(side));
+        let a = side.length();
         Scan {
             held: room,
             w: a,
@@ -97,7 +96,7 @@ pub fn fill_scan(log2: usize, held: &mut [u16])
     requires { (1 ≤ log2) × (log2 ≤ most_log2) × (length held.old ≡ 4 ^ log2) }
     ensures { held.new ≡ square_scan log2 }
 {
-    held.copy_from_slice(listed(log2));
+    held.copy_from_slice(listed(Side { log2 }));
 }
 
 pub fn block_place(held: &[u16], w: usize, h: usize, p: ScanPlace) -> BlockPlace

@@ -1,7 +1,8 @@
 // The scales of the quantiser, and those by which levels are scaled back.
 ghost use Rattle.std.specs.Prelude.{◌≡◌, ◌≤◌};
-ghost use Rattle.refusals.specs.Sides.{most_log2};
 ghost use Rattle.tables.specs.Scales.{forward, back, scale_of, error_scale};
+
+use refusals::ranges::Side;
 
 // q by QP mod 6.
 const SCALES: [u32; 6] = [26214, 23302, 20560, 18396, 16384, 14564];
@@ -32,10 +33,9 @@ pub fn back_scale(qp: u32) -> u32
     table[(qp % 6) as usize]
 }
 
-pub fn error_scale(log2: usize, qp: u32) -> u32
-    requires { (1 ≤ log2) × (log2 ≤ most_log2) }
-    ensures { result ≡ error_scale log2 (scale_of forward qp) }
+pub fn error_scale(side: Side, qp: u32) -> u32
+    ensures { result ≡ error_scale side.log2 (scale_of forward qp) }
 {
     let table = ERROR_SCALES;
-    table[(log2 - 1) * 6 + (qp % 6) as usize]
+    table[(side.log2 - 1) * 6 + (qp % 6) as usize]
 }

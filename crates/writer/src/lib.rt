@@ -9,6 +9,7 @@ ghost use Rattle.squares.specs.Inner.Beside.{Square};
 ghost use Rattle.writer.specs.Inner.Lists.{Writable, written_over};
 
 use packing::pack;
+use refusals::ranges::Side;
 use runs::Symbol;
 use scan::{Scan, scan_place, value_at};
 
@@ -72,7 +73,7 @@ fn write_with<const N: usize>(block: &[i16], log2_side: usize, list: &mut [u32],
 {
     let n = block.len();
     let mut room = [0u16; N];
-    let scan = Scan::square(log2_side, &mut room[..n]);
+    let scan = Scan::square(Side { log2: log2_side }, &mut room[..n]);
     write_in(block, scan, list, count);
 }
 

@@ -26,38 +26,37 @@ module _ (l : ℕ) (s : Scan) (is : (s.w ≡ 2 ^ l) × (s.h ≡ 2 ^ l)) (of : We
 
 pub square-scan-requires : goal.square-scan-requires
 square-scan-requires c =
-    let room = c.requires.3.scan_room ∙ c.requires.2.room in
-    (c.requires.0, c.requires.1, room ∙ sym (area_is c.args.log2_side c.requires.1))
+    c.requires.1.scan_room ∙ c.requires.0.room ∙ sym (area_is c.args.side.log2 c.args.side.in_range.1)
 
 pub keep-count-requires : goal.keep-count-requires
 keep-count-requires c =
-    (c.requires.3.kept_room, omega (arith, c.requires.2.room, area_range most_log2 c.args.log2_side c.requires.1))
+    (c.requires.1.kept_room, omega (arith, c.requires.0.room, area_range most_log2 c.args.side.log2 c.args.side.in_range.1))
 
 pub invariant_of-all : goal.invariant_of-all
 invariant_of-all c =
     let s = c.square-scan in
-    let ok = codable _ s.result s.ensures c.args.weights c.args.block.now c.args.d c.requires.2 in
+    let ok = codable _ s.result s.ensures c.args.weights c.args.block.now c.args.d c.requires.0 in
     record { choosable = choosable _ _ _ _ _ _ _ c.square-scan.result.scanned ok _ _ c.keep-count.ensures }
 
 pub choose-price-requires : goal.choose-price-requires
 choose-price-requires c =
     let s = c.square-scan in
-    let ok = codable _ s.result s.ensures c.args.weights c.args.block.now c.args.d c.requires.2 in
-    record { room = c.requires.3.levels_room ∙ ok.room; cleared = c.requires.3.cleared }
+    let ok = codable _ s.result s.ensures c.args.weights c.args.block.now c.args.d c.requires.0 in
+    record { room = c.requires.1.levels_room ∙ ok.room; cleared = c.requires.1.cleared }
 
 pub put_signs-count-requires : goal.put_signs-count-requires
 put_signs-count-requires c =
     let s = c.square-scan in
-    let ok = codable _ s.result s.ensures c.args.weights c.args.block.now c.args.d c.requires.2 in (
+    let ok = codable _ s.result s.ensures c.args.weights c.args.block.now c.args.d c.requires.0 in (
       room_left _ _ ok c.keep-count.ensures c.args.mode _ _ c.choose-price.ensures ∙ sym ok.room,
-      omega (arith, c.requires.2.room, area_range most_log2 c.args.log2_side c.requires.1),
+      omega (arith, c.requires.0.room, area_range most_log2 c.args.side.log2 c.args.side.in_range.1),
       level_small _ _ ok c.keep-count.ensures c.args.mode _ _ c.choose-price.ensures,
     )
 
 pub returns : goal.returns
 returns c =
     let s = c.square-scan in
-    let ok = codable _ s.result s.ensures c.args.weights c.args.block.now c.args.d c.requires.2 in
+    let ok = codable _ s.result s.ensures c.args.weights c.args.block.now c.args.d c.requires.0 in
     coded _ c.square-scan.result c.square-scan.ensures c.args.weights _ c.args.mode _ _
     (coded_as _ _ ok c.keep-count.ensures c.args.mode _ _ c.choose-price.ensures _ _ c.put_signs-count.ensures.0
     c.put_signs-count.ensures.1)

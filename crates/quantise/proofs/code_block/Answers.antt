@@ -66,14 +66,11 @@ prices-prices-requires c = subst InRange (sym c.costs_of.ensures) (costs_in_rang
 pub code_levels-requires : goal.code_levels-requires
 code_levels-requires c =
     let walked =
-    walked_is c.requires c.of-scale.ensures c.skip_threshold-threshold.ensures c.in_default.ensures in (
-      c.requires.low,
-      c.requires.high,
-      codable c.requires c.of-scale.ensures walked c.largest-top.ensures c.if-top-eq-LOWEST.false
-          c.rounded-m.ensures c.if-m-gt-MOST_LEVEL.false c.lambda_whole-lambda.ensures
-          c.if-lambda-m-gt-MOST_WEIGHT.false c.uncoded-d.ensures c.if-d-gt-MOST_DISTORTION.false
-          c.of-at.result c.of-at.ensures c.costs_of.ensures c.prices-prices.ensures,
-    )
+    walked_is c.requires c.of-scale.ensures c.skip_threshold-threshold.ensures c.in_default.ensures in
+    codable c.requires c.of-scale.ensures walked c.largest-top.ensures c.if-top-eq-LOWEST.false
+    c.rounded-m.ensures c.if-m-gt-MOST_LEVEL.false c.lambda_whole-lambda.ensures
+    c.if-lambda-m-gt-MOST_WEIGHT.false c.uncoded-d.ensures c.if-d-gt-MOST_DISTORTION.false
+    c.of-at.result c.of-at.ensures c.costs_of.ensures c.prices-prices.ensures
 
 pub returns : goal.returns
 returns c =

@@ -19,8 +19,7 @@ whole_as_front-square g c = (c.requires.room.0, omega (arith, c.requires.room.1)
 pub square-scan-requires : goal.square-scan-requires
 square-scan-requires g c =
     let q = c.requires.square.0 in
-    let w = within _ _ q in
-    (w.0, w.1, part_length g.row.N _ c.requires.room.0 ∙ scan_room _ _ q)
+    part_length g.row.N _ c.requires.room.0 ∙ scan_room _ _ q
 
 pub lay-requires : goal.lay-requires
 lay-requires g c =

@@ -21,4 +21,4 @@ returns-in-4 c = ap square_scan (sym c.in-4.is)
 
 pub returns-in_default : goal.returns-in_default
 unfolding square_scan
-returns-in_default c = let is_5 : 5 ≡ c.args.log2 = omega arith in ap square_scan is_5
+returns-in_default c = let is_5 : 5 ≡ c.args.side.log2 = omega arith in ap square_scan is_5

@@ -8,14 +8,14 @@ use Rattle.scaling.proofs.scale.skip_threshold.Goals as goal
 pub returns : goal.returns
 unfolding threshold shift_of
 returns c =
-    let u = shift_range c.args.log2_side c.args.qp c.requires.0 c.requires.1 c.requires.2 in
+    let u = shift_range c.args.side.log2 c.args.qp.qp c.args.side.in_range.0 c.args.side.in_range.1 c.args.qp.in_range in
     elim c.if-intra_slice.branch [
       | then-intra_slice w ↦
-          let t = threshold_range (shift_of c.args.log2_side c.args.qp) (omega arith) (omega arith) _ 201
+          let t = threshold_range (shift_of c.args.side.log2 c.args.qp.qp) (omega arith) (omega arith) _ 201
           (bit _ (omega arith)) (omega arith) in
           rw (w.if-intra_slice.true, w.share-is) (t.0, t.1, omega (arith, t.3))
       | else-intra_slice w ↦
-          let t = threshold_range (shift_of c.args.log2_side c.args.qp) (omega arith) (omega arith) _ 153
+          let t = threshold_range (shift_of c.args.side.log2 c.args.qp.qp) (omega arith) (omega arith) _ 153
           (bit _ (omega arith)) (omega arith) in
           rw (w.if-intra_slice.false, w.share-is) (t.0, t.1, omega (arith, t.3))
     ]

@@ -6,11 +6,11 @@ use Rattle.scan.proofs.Scan.square.Goals as goal
 
 pub copy_from_slice-requires : goal.copy_from_slice-requires
 copy_from_slice-requires c =
-    c.requires.2 ∙ sym (ap length c.listed.ensures ∙ square_scan_length c.args.log2 c.requires.1)
+    c.requires ∙ sym (ap length c.listed.ensures ∙ square_scan_length c.args.side.log2 c.args.side.in_range.1)
 
 pub invariant_of-result : goal.invariant_of-result
 invariant_of-result c = record {
   scanned =
-      square_scanned c.args.log2 c.requires.1 _ _ _ c.side-a.ensures.0 c.side-a.ensures.0
+      square_scanned c.args.side.log2 c.args.side.in_range.1 _ _ _ c.length-a.ensures.0 c.length-a.ensures.0
       (c.copy_from_slice.ensures.after ∙ c.listed.ensures);
 }

@@ -4,4 +4,4 @@ use Rattle.tables.proofs.scales.error_scale.Goals as goal
 
 pub returns : goal.returns
 unfolding error_scales
-returns c = error_scale_at c.args.log2 c.args.qp c.requires.0 c.requires.1
+returns c = error_scale_at c.args.side.log2 c.args.qp c.args.side.in_range.0 c.args.side.in_range.1

@@ -18,6 +18,6 @@ pub returns : goal.returns
 returns c =
     let l = c.loop-i in
     let s = c.args.self.now in
-    let every = fates s.qp s.coefficients s.levels in
+    let every = fates s.qp.qp s.coefficients s.levels in
     let e : l.i ≡ 64 = omega arith in
     (l.invariant ∙ ap (λ (n : ℕ). tally_of every n) e, tally_below every l.i 64 (omega arith) l.invariant)

@@ -10,4 +10,4 @@ abbrev pub fates : ℕ → List ℤ → List ℤ → ℕ → Fate
 fates qp coefficients levels k = fate_at qp (at coefficients k) (at levels k)
 
 abbrev pub invariant-loop-i : goal.invariant-loop-i
-invariant-loop-i l = l.tally ≡ tally_of (fates l.self.qp l.self.coefficients l.self.levels) l.i
+invariant-loop-i l = l.tally ≡ tally_of (fates l.self.qp.qp l.self.coefficients l.self.levels) l.i

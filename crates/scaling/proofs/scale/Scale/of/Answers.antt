@@ -16,37 +16,37 @@ product l qp q e i j = rw (i, j)
 
 pub overflow_sub-rest : goal.overflow_sub-rest
 overflow_sub-rest c =
-    let x = error_range forward forward_usable c.args.log2_side c.args.qp c.requires.1 in
+    let x = error_range forward forward_usable c.args.side.log2 c.args.qp.qp c.args.side.in_range.1 in
     omega (
       arith,
       product _ _ _ _ c.scale-q.ensures c.error_scale-error.ensures,
       x.1,
-      front_range c.args.log2_side c.requires.1,
+      front_range c.args.side.log2 c.args.side.in_range.1,
     )
 
 pub overflow_cast-result-2 : goal.overflow_cast-result-2
 overflow_cast-result-2 c =
-    let x = error_range forward forward_usable c.args.log2_side c.args.qp c.requires.1 in
+    let x = error_range forward forward_usable c.args.side.log2 c.args.qp.qp c.args.side.in_range.1 in
     record {
       fits = omega (
         arith,
         product _ _ _ _ c.scale-q.ensures c.error_scale-error.ensures,
         x.2,
-        scale_range c.args.qp,
-        front_range c.args.log2_side c.requires.1,
+        scale_range c.args.qp.qp,
+        front_range c.args.side.log2 c.args.side.in_range.1,
       );
     }
 
 pub overflow_cast-result-3 : goal.overflow_cast-result-3
 unfolding shift_of
 overflow_cast-result-3 c =
-    let h = half_range c.args.log2_side c.args.qp c.requires.0 c.requires.1 c.requires.2 in
-    let q = scale_range c.args.qp in
+    let h = half_range c.args.side.log2 c.args.qp.qp c.args.side.in_range.0 c.args.side.in_range.1 c.args.qp.in_range in
+    let q = scale_range c.args.qp.qp in
     record {
       fits = omega (
         arith,
         c.scale-q.ensures,
-        least_range (1 * 2 ^ (shift_of c.args.log2_side c.args.qp - 1) % 18446744073709551616)
+        least_range (1 * 2 ^ (shift_of c.args.side.log2 c.args.qp.qp - 1) % 18446744073709551616)
             c.scale-q.result (omega (arith, c.scale-q.ensures)) (omega arith),
       );
     }
@@ -54,19 +54,18 @@ overflow_cast-result-3 c =
 pub invariant_of-result : goal.invariant_of-result
 unfolding shift_of
 invariant_of-result c =
-    let h = c.requires in
-    let l = c.args.log2_side in
-    let u = shift_range l c.args.qp h.0 h.1 h.2 in
-    let sound = scale_sound forward forward_usable l c.args.qp h.0 h.1 h.2 _ _ _ _ _ _ _ _
+    let l = c.args.side.log2 in
+    let u = shift_range l c.args.qp.qp c.args.side.in_range.0 c.args.side.in_range.1 c.args.qp.in_range in
+    let sound = scale_sound forward forward_usable l c.args.qp.qp c.args.side.in_range.0 c.args.side.in_range.1 c.args.qp.in_range _ _ _ _ _ _ _ _
     c.scale-q.ensures refl (bit _ (omega arith)) (bit _ (omega arith))
     (c.error_scale-error.ensures ∙ ap (error_scale l) (sym c.scale-q.ensures)) (bit _ (omega arith)) refl refl in
     record { sound = sound }
 
 pub nonzero_div-least : goal.nonzero_div-least
-nonzero_div-least c = omega (arith, scale_range c.args.qp, c.scale-q.ensures)
+nonzero_div-least c = omega (arith, scale_range c.args.qp.qp, c.scale-q.ensures)
 
 pub returns : goal.returns
 unfolding shift_of
 returns c =
-    let error = c.error_scale-error.ensures ∙ ap (error_scale c.args.log2_side) (sym c.scale-q.ensures) in
+    let error = c.error_scale-error.ensures ∙ ap (error_scale c.args.side.log2) (sym c.scale-q.ensures) in
     record { q = c.scale-q.ensures; shift = refl; error = error }
