@@ -1,5 +1,5 @@
 -- What the code of a block is given can be tried: coefficients of tame residuals are small, and what refusals 7 and 8
--- leave, or the skip, can be priced at each place. The levels read back are the mode's magnitudes. Assumes nothing.
+-- leave, or the skip, can be priced at each place. The levels read back are the mode's magnitudes.
 use mathlib.Core.Path.{◌≡◌, refl, sym, ap, subst, ◌∙◌}
 use mathlib.Core.Logic.{⊎_elim}
 use mathlib.Core.Bool.{Bool, true, false}
@@ -31,10 +31,13 @@ use Rattle.price.proofs.Rates.{costs_in_range}
 use Rattle.scaling.specs.declared.scale.Scale.{Scale}
 use Rattle.scaling.specs.Inner.Scale.{ScaleOf}
 use Rattle.weights.specs.declared.prices.Prices.{Prices}
-use Rattle.weights.specs.Inner.Prices.{Modest, Fine, rule_by}
-use Rattle.weights.specs.Inner.Places.{in_scan, Scanned}
+use Rattle.weights.specs.Inner.Prices.{Fine, rule_by}
+use Rattle.finished.specs.Inner.Finished.{Priceable}
+use Rattle.trial.specs.Inner.Whole.{Whole}
+use Rattle.scan.specs.Scanned.{Scanned}
+use Rattle.weights.specs.Inner.Places.{in_scan}
 use Rattle.weights.proofs.Places.{scan_count}
-use Rattle.contexts.specs.Inner.Reading.{prices_of}
+use Rattle.contexts.specs.Inner.Reading.{PricesOf}
 use Rattle.coefficients.specs.Inner.Coefficients.{Within}
 use Rattle.coding.specs.declared.Coding.{Coding}
 use Rattle.coding.specs.Block.{Quant, called, area, lambda_here, rule_of, shift_here, block_places, scanned, places}
@@ -48,12 +51,14 @@ use Rattle.order.proofs.Coefficients.{magnitude_in_scan}
 use Rattle.order.proofs.ReadBack.{levels_in_scan}
 use Rattle.heights.specs.declared.Heights.{Heights}
 use Rattle.components.proofs.Blocks.{quantised_length}
-use Rattle.guarding.specs.declared.GuardAnswer.{GuardAnswer}
+use Rattle.std.specs.Prelude.{Result}
+use Rattle.refusals.specs.declared.Refused.{Refused}
+use Rattle.guarding.specs.declared.Guarded.{Guarded}
 use Rattle.guarding.specs.Block.{fits}
 use Rattle.guarding.specs.Inner.Held.{guard_by, Guardable, Held}
 use Rattle.guarding.proofs.Candidates.{magnitudes_allowed}
 use Rattle.trial.specs.declared.Terms.{Terms}
-use Rattle.attempts.specs.Inner.Candidates.{Repairable, RepairedAs}
+use Rattle.attempts.specs.Inner.Candidates.{RepairedAs}
 use Rattle.candidates.specs.Inner.Given.{TermsOf}
 use Rattle.candidates.proofs.Numbers.{early, rule_is, places_are, held_is}
 
@@ -146,14 +151,14 @@ module _ (r : List ℤ) (t : Costs) (c : Coding) (h : Heights) (before shown : L
         (magnitudes_count (guard_by r t c h).call ok) (omega (arith, long))
 
     module _ (p : Prices) (g : Scale) (w : ScaleOf forward c.log2 c.settings.qp g)
-        (e : p ≡ prices_of 32768 (lambda_of c.settings.lambda) t (rows_of c.component c.intra_coded))
-        (modest : Modest p) (light : lambda_of c.settings.lambda ≤ 2 ^ 28) where
+        (e : PricesOf 32768 (lambda_of c.settings.lambda) t (rows_of c.component c.intra_coded) p)
+        (light : lambda_of c.settings.lambda ≤ 2 ^ 28) where
       fine : (k : ℕ) → Fine p g (nat_abs (at block k) * g.q)
       unfolding guard_by called lambda_here scaled
       fine =
           let q = (guard_by r t c h).call in
           let top = over on_max nat_abs block in
-          all_fine block top refl (omega (arith, largest_at_most 32736 block few)) g w.sound p
+          all_fine block top refl (omega (arith, largest_at_most 32736 block few)) g p
           (lambda_of c.settings.lambda) (largest_here q)
           (largest_here_lem block t c (early r t c h ok) g w top refl) (level_fits q ok) (price_fits q ok light)
           (each_small 32768 (lambda_of c.settings.lambda) t (rows_of c.component c.intra_coded) p
@@ -168,39 +173,18 @@ module _ (r : List ℤ) (t : Costs) (c : Coding) (h : Heights) (before shown : L
           ∙ ap (λ (Ls : List ℕ). nearest g.shift (get_or Ls k 0)) (places_are r t c h ok p g w e)
           ∙ ap (nearest g.shift) (map_at 0 0 (λ a. a * g.q) cs k l)
 
-      pub repairable : (x y z : ℕ) → x ≡ length r → y ≡ length r → z ≡ length r
-          → Repairable (record { prices = p; scale = g; log2 = c.log2; qp = c.settings.qp; heights = h })
-          r (coefficients r c.log2 c.log2) held cs (magnitudes (guard_by r t c h).call) x y z
+      pub priceable : Priceable p g (magnitudes (guard_by r t c h).call) cs
       unfolding guard_by called area
-      repairable x y z ex ey ez =
+      priceable =
           let n = scan_count side side (map nat_abs block) held sc in
           let all = magnitudes_count (guard_by r t c h).call ok in
           record {
-            triable =
-                record {
-                  low = given.low;
-                  high = given.high;
-                  qp = (early r t c h ok).qp;
-                  scanned = sc;
-                  samples = given.long;
-                  block = long;
-                  places = n;
-                  priceable =
-                      record {
-                        modest = modest;
-                        sound = w.sound;
-                        long = all ∙ sym n;
-                        few = omega (arith, n, sc.few);
-                        fine = in_scan_lem (λ (a : ℕ). Fine p g (a * g.q)) fine;
-                        allowed = λ k l.
-                            subst (λ (m : ℕ). Allowed m (get_or (magnitudes (guard_by r t c h).call) k 0)) (top_is k l)
-                            (magnitudes_allowed (guard_by r t c h).call ok k (omega (arith, n)));
-                      };
-                  level_room = ex ∙ given.long;
-                  shown_room = ey ∙ given.long;
-                  row_room = ez ∙ given.long;
-                };
-            small = in_scan_lem (λ (a : ℕ). a ≤ 32768) (λ k. omega (arith, few k));
+            long = all ∙ sym n;
+            few = omega (arith, n, sc.few);
+            fine = in_scan_lem (λ (a : ℕ). Fine p g (a * g.q)) fine;
+            allowed = λ k l.
+                subst (λ (m : ℕ). Allowed m (get_or (magnitudes (guard_by r t c h).call) k 0)) (top_is k l)
+                (magnitudes_allowed (guard_by r t c h).call ok k (omega (arith, n)));
           }
 
   -- the levels' room is the block's
@@ -209,48 +193,56 @@ module _ (r : List ℤ) (t : Costs) (c : Coding) (h : Heights) (before shown : L
   levels_long = ap length given.levels ∙ quantised_length (guard_by r t c h).call ∙ long ∙ sym given.long
 
   -- in the lists and the terms that code has
-  module _ (held : List ℕ) (sc : Scanned (2 ^ c.log2) (2 ^ c.log2) held)
+  module _ (w l : ℕ) (wide : w ≡ 2 ^ c.log2) (tall : l ≡ 2 ^ c.log2) (held : List ℕ) (sc : Scanned w l held)
       (b : List ℤ) (transformed : b ≡ coefficients r c.log2 c.log2) (ls ns : List ℕ)
-      (along : ls ≡ in_scan (2 ^ c.log2) (2 ^ c.log2) (map nat_abs b))
-      (read : ns ≡ in_scan (2 ^ c.log2) (2 ^ c.log2) (map nat_abs before))
-      (x : Terms) (w : TermsOf t c h x) where
-    terms_are : record {
-      prices = x.prices;
-      scale = x.scale;
-      log2 = c.log2;
-      qp = c.settings.qp;
-      heights = h;
-    } ≡ x
-    terms_are = λ i. record {
-      prices = x.prices;
-      scale = x.scale;
-      log2 = sym w.log2 i;
-      qp = sym w.qp i;
-      heights = sym w.heights i;
-    }
+      (along : ls ≡ in_scan w l (map nat_abs b)) (read : ns ≡ in_scan w l (map nat_abs before))
+      (x : Terms) (of : TermsOf t c h x) where
+    square : Scanned side side held
+    square = rw (wide, tall) at sc
 
     along_is : ls ≡ cs
-    along_is = along ∙ ap (λ (l : List ℤ). in_scan side side (map nat_abs l)) transformed
+    along_is = along ∙ rw (wide, tall, transformed) refl
 
     read_is : ns ≡ magnitudes (guard_by r t c h).call
-    read_is = read ∙ magnitudes_read held sc
+    read_is = read ∙ rw (wide, tall) (magnitudes_read held square)
 
-    pub repairable_so : (y z u : ℕ) → y ≡ length r → z ≡ length r → u ≡ length r → Repairable x r b held ls ns y z u
-    repairable_so y z u ey ez eu =
-        subst (λ (o : Terms). Repairable o r b held ls ns y z u) terms_are
-        (rw (transformed, along_is, read_is)
-        (repairable held sc x.prices x.scale w.scale w.prices.is w.prices.modest w.prices.light
-        y z u ey ez eu))
+    pub whole_so : Whole x.log2 x.qp w l r b ls
+    whole_so =
+        rw (of.log2, of.qp, wide, tall, transformed, along_is)
+        (record {
+          low = given.low;
+          high = given.high;
+          qp = (early r t c h ok).qp;
+          wide = refl;
+          tall = refl;
+          samples = given.long;
+          block = long;
+          places = scan_count side side (map nat_abs block) held square;
+          small = in_scan_lem held square (λ (a : ℕ). a ≤ 32768) (λ k. omega (arith, few k));
+        })
+
+    pub priceable_so : Priceable x.weights.prices x.weights.scale ns ls
+    priceable_so =
+        rw (along_is, read_is)
+        (priceable held square x.weights.prices x.weights.scale of.scale of.prices.is of.prices.light)
+
+    terms_are : record { weights = x.weights; log2 = c.log2; qp = c.settings.qp; heights = h } ≡ x
+    terms_are = λ i. record {
+      weights = x.weights;
+      log2 = sym of.log2 i;
+      qp = sym of.qp i;
+      heights = sym of.heights i;
+    }
 
     pub held_so : fits (guard_by r t c h) (magnitudes (guard_by r t c h).call) ≡ false
-        → (after : List ℤ) (o : GuardAnswer) → RepairedAs x c.component r b ls ns after o
+        → (after : List ℤ) (o : Result Guarded Refused) → RepairedAs x c.component r b ls ns after o
         → Held (guard_by r t c h) after o
     held_so unfit after o d =
-        held_is r t c h ok x.prices x.scale w.scale w.prices.is unfit after o
+        held_is r t c h ok x.weights.prices x.weights.scale of.scale of.prices.is unfit after o
         (subst (λ (l : List ℕ). RepairedAs its c.component r block cs l after o) read_is
         (subst (λ (l : List ℕ). RepairedAs its c.component r block l ns after o) along_is
         (subst (λ (l : List ℤ). RepairedAs its c.component r l ls ns after o) transformed
         (subst (λ (y : Terms). RepairedAs y c.component r b ls ns after o) (sym terms_are) d))))
       where
         its : Terms
-        its = record { prices = x.prices; scale = x.scale; log2 = c.log2; qp = c.settings.qp; heights = h }
+        its = record { weights = x.weights; log2 = c.log2; qp = c.settings.qp; heights = h }

@@ -1,5 +1,5 @@
 -- The definition of a guarded block in the numbers that code has of it: what a candidate costs, how far it is off and
--- whether it fits, which are the candidates, and so what is answered and left. Assumes nothing.
+-- whether it fits, which are the candidates, and so what is answered and left.
 use mathlib.Core.Path.{◌≡◌, refl, sym, ap, fun_ext, ◌∙◌}
 use mathlib.Core.Bool.{Bool, true, false, not, cond, ◌&&◌, ◌||◌}
 use mathlib.Core.List.{List, [], map, map-map}
@@ -25,7 +25,7 @@ use Rattle.scaling.specs.Inner.Scale.{ScaleOf}
 use Rattle.weights.specs.declared.prices.Prices.{Prices}
 use Rattle.weights.specs.Inner.Prices.{rule_by}
 use Rattle.weights.specs.Inner.Places.{in_scan}
-use Rattle.contexts.specs.Inner.Reading.{prices_of}
+use Rattle.contexts.specs.Inner.Reading.{PricesOf}
 use Rattle.coding.specs.declared.Coding.{Coding}
 use Rattle.coding.specs.Block.{called, log2_of, lambda_here, rule_of, block_places, scanned, places, magnitudes}
 use Rattle.coding.specs.Call.{quant_verdict}
@@ -38,7 +38,8 @@ use Rattle.heights.specs.declared.Extremes.{Extremes}
 use Rattle.heights.specs.declared.Heights.{Heights}
 use Rattle.heights.specs.Extremes.{extremes, within}
 use Rattle.guarding.specs.declared.Guarded.{Guarded}
-use Rattle.guarding.specs.declared.GuardAnswer.{GuardAnswer}
+use Rattle.std.specs.Prelude.{Result}
+use Rattle.refusals.specs.declared.Refused.{Refused}
 use Rattle.guarding.specs.Block.{plain, put_back, candidates, levels_of, price_with, extremes_with, fits, first_where}
 use Rattle.guarding.specs.Block.{none_fits, guarded, reported, guarded_levels}
 use Rattle.guarding.specs.Inner.Held.{guard_by, held_answer, Held}
@@ -72,9 +73,9 @@ module _ (r : List ℤ) (t : Costs) (c : Coding) (h : Heights) (ok : quant_verdi
       }
 
   module _ (p : Prices) (g : Scale) (w : ScaleOf forward c.log2 c.settings.qp g)
-      (e : p ≡ prices_of 32768 (lambda_of c.settings.lambda) t (rows_of c.component c.intra_coded)) where
+      (e : PricesOf 32768 (lambda_of c.settings.lambda) t (rows_of c.component c.intra_coded) p) where
     abbrev terms : Terms
-    terms = record { prices = p; scale = g; log2 = c.log2; qp = c.settings.qp; heights = h }
+    terms = record { weights = record { prices = p; scale = g }; log2 = c.log2; qp = c.settings.qp; heights = h }
 
     pub rule_is : rule_of (guard_by r t c h).call ≡ rule_by p g
     unfolding guard_by lambda_here called
@@ -169,7 +170,7 @@ module _ (r : List ℤ) (t : Costs) (c : Coding) (h : Heights) (ok : quant_verdi
           ∙ ap (λ (a : Guarded). cond (not any) no (accepted a)) report_is
           ∙ exchanged any no (accepted (report_by terms r block cs (first_by terms r block cs ms)))
 
-      pub held_is : (after : List ℤ) (o : GuardAnswer) → RepairedAs terms c.component r block cs ms after o
+      pub held_is : (after : List ℤ) (o : Result Guarded Refused) → RepairedAs terms c.component r block cs ms after o
           → Held (guard_by r t c h) after o
       unfolding guarded_levels
       held_is after o w =

@@ -10,96 +10,63 @@ ghost use Rattle.transform.specs.Call.{wild};
 ghost use Rattle.price.specs.Lambda.{lambda_refused};
 ghost use Rattle.price.specs.Costs.{costs_of, cost_refused};
 ghost use Rattle.coding.specs.Block.{magnitudes};
-ghost use Rattle.weights.specs.Inner.Places.{in_scan, Scanned};
+ghost use Rattle.weights.specs.Inner.Places.{in_scan};
 ghost use Rattle.guarding.specs.Block.{fits};
 ghost use Rattle.guarding.specs.Inner.Held.{guard_by, Guardable, Held};
-ghost use Rattle.candidates.specs.Inner.Given.{Unfit, TermsOf, Rooms};
+ghost use Rattle.candidates.specs.Inner.Given.{TermsOf};
 
 use attempts::try_all;
 use coding::Coding;
-use contexts::{contexts_of, prices_of};
-use guarding::GuardAnswer;
+use contexts::Contexts;
+use guarding::Guarded;
 use heights::Heights;
-use measure::copy;
 use order::{gather, magnitudes};
 use price::{costs_of, lambda_whole};
-use refusals::side;
-use scaling::scale::scale_of;
-use scan::fill_scan;
+use refusals::Refused;
+use scaling::scale::Scale;
+use scan::Scan;
 use transform::trans;
-use trial::Terms;
+use trial::{Block, Terms};
+use weights::Weights;
 
 // What the candidates of a block are tried by.
-fn terms_of(costs: &[u64; 28], coding: Coding, h: Heights) -> Terms
+fn terms_of(costs: &[u64; 28], coding: Coding, heights: Heights) -> Terms
     requires { (1 ≤ coding.log2) × (coding.log2 ≤ most_log2) × (coding.settings.qp ≤ 63)
         × (lambda_refused coding.settings.lambda ≡ false) × (cost_refused (costs_of costs.now) ≡ false) }
-    ensures { TermsOf (costs_of costs.now) coding h result }
+    ensures { TermsOf (costs_of costs.now) coding heights result }
 {
     let settings = coding.settings;
-    let component = coding.component;
     let lambda = lambda_whole(settings.lambda);
-    let at = contexts_of(component, coding.intra_coded);
+    let at = Contexts::of(coding.component, coding.intra_coded);
     Terms {
-        prices: prices_of(costs_of(costs), at, lambda),
-        scale: scale_of(coding.log2, settings.qp),
+        weights: Weights {
+            prices: at.prices(costs_of(costs), lambda),
+            scale: Scale::of(coding.log2, settings.qp),
+        },
         log2: coding.log2,
         qp: settings.qp,
-        heights: h,
+        heights,
     }
 }
 
-// The residuals' coefficients.
+// The residuals' coefficients. Their transform is not refused.
 fn transform_in(residuals: &[i16], coefs: &mut [i16], log2: usize)
     requires { (1 ≤ log2) × (log2 ≤ most_log2) × (length residuals.now ≡ 2 ^ log2 * 2 ^ log2)
         × (length coefs.old ≡ length residuals.now) × (some wild residuals.now ≡ false) }
     ensures { coefs.new ≡ coefficients residuals.now log2 log2 }
 {
-    copy(residuals, coefs);
-    trans(coefs, log2, log2);
+    coefs.copy_from_slice(residuals);
+    let _ = trans(coefs, log2, log2);
 }
 
-// The magnitudes of a square block, in scan order.
-fn read_along(block: &[i16], scan: &[u16], log2: usize, rows: &mut [u16], out: &mut [u16])
-    requires { (1 ≤ log2) × (log2 ≤ most_log2) × Scanned (2 ^ log2) (2 ^ log2) scan.now
-        × (length block.now ≡ 2 ^ log2 * 2 ^ log2) × (length rows.old ≡ 2 ^ log2 * 2 ^ log2)
-        × (length out.old ≡ 2 ^ log2 * 2 ^ log2) }
-    ensures { out.new ≡ in_scan (2 ^ log2) (2 ^ log2) (map nat_abs block.now) }
+// The magnitudes of a block, in scan order.
+fn read_along(block: &[i16], scan: Scan, rows: &mut [u16], out: &mut [u16])
+    requires { (length block.now ≡ scan.w * scan.h) × (length rows.old ≡ length block.now)
+        × (length out.old ≡ length block.now) }
+    ensures { out.new ≡ in_scan scan.entry.w scan.entry.h (map nat_abs block.now) }
 {
-    let a = side(log2);
     magnitudes(block, rows);
-    gather(rows, scan, a, a, out);
-}
-
-// In rooms that have the block's length.
-fn repair_in(
-    levels: &mut [i16],
-    residuals: &[i16],
-    shown: &mut [i16],
-    costs: &[u64; 28],
-    coding: Coding,
-    h: Heights,
-    coefs: &mut [i16],
-    scan: &mut [u16],
-    rows: &mut [u16],
-    ms: &mut [u16],
-    places: &mut [u16],
-) -> GuardAnswer
-    requires unfit { Unfit residuals.now (costs_of costs.now) coding h levels.old shown.old }
-    requires rooms { Rooms (length residuals.now) (length coefs.old) (length scan.old) (length rows.old)
-        (length ms.old) (length places.old) }
-    ensures { Held (guard_by residuals.now (costs_of costs.now) coding h)
-        levels.new result }
-{
-    let log2 = coding.log2;
-    let component = coding.component;
-    fill_scan(log2, scan);
-    transform_in(residuals, coefs, log2);
-    read_along(coefs, scan, log2, rows, places);
-    read_along(levels, scan, log2, rows, ms);
-    let t = terms_of(costs, coding, h);
-    try_all(
-        levels, residuals, shown, coefs, scan, rows, ms, places, t, component,
-    )
+    gather(rows, scan, out);
 }
 
 // A block whose levels, as the mode writes them, do not fit.
@@ -110,7 +77,7 @@ pub fn repair(
     costs: &[u64; 28],
     coding: Coding,
     h: Heights,
-) -> GuardAnswer
+) -> Result<Guarded, Refused>
     requires guardable { Guardable residuals.now (costs_of costs.now) coding h levels.old shown.old }
     requires h_value { fits (guard_by residuals.now (costs_of costs.now) coding h)
         (magnitudes (guard_by residuals.now (costs_of costs.now) coding h).call) ≡ false }
@@ -118,22 +85,25 @@ pub fn repair(
         levels.new result }
 {
     let n = residuals.len();
+    let mut room = [0u16; 1024];
+    let scan = Scan::square(coding.log2, &mut room[..n]);
     let mut coefs = [0i16; 1024];
-    let mut scan = [0u16; 1024];
+    let coefs = &mut coefs[..n];
+    transform_in(residuals, coefs, coding.log2);
     let mut rows = [0u16; 1024];
-    let mut ms = [0u16; 1024];
+    let rows = &mut rows[..n];
     let mut places = [0u16; 1024];
-    repair_in(
-        levels,
+    let places = &mut places[..n];
+    read_along(coefs, scan, rows, places);
+    let mut ms = [0u16; 1024];
+    let ms = &mut ms[..n];
+    read_along(levels, scan, rows, ms);
+    let block = Block {
+        terms: terms_of(costs, coding, h),
         residuals,
-        shown,
-        costs,
-        coding,
-        h,
-        &mut coefs[..n],
-        &mut scan[..n],
-        &mut rows[..n],
-        &mut ms[..n],
-        &mut places[..n],
-    )
+        coefs,
+        scan,
+        places,
+    };
+    try_all(block, coding.component, ms, levels, shown, rows)
 }

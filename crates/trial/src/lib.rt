@@ -33,11 +33,11 @@ pub struct Terms {
 
 // The block that they are candidates of: its residuals and their coefficients, by rows; its scan, and the |c| along it.
 #[derive(Clone, Copy)]
-pub struct Block<'a> {
+pub struct Block<'a, 's> {
     pub terms: Terms,
     pub residuals: &'a [i16],
     pub coefs: &'a [i16],
-    pub scan: Scan<'a>,
+    pub scan: Scan<'s>,
     pub places: &'a [u16],
     pub ghost whole: { Whole terms.log2 terms.qp scan.w scan.h residuals.now coefs.now places.now },
 }
@@ -53,7 +53,7 @@ pub fn put_back(ms: &mut [u16], places: &[u16], scale: Scale)
     }
 }
 
-impl<'a> Block<'a> {
+impl<'a, 's> Block<'a, 's> {
     // The levels of magnitudes in scan order, by rows; how many are not 0.
     fn write_levels(self, ms: &[u16], levels: &mut [i16], rows: &mut [u16]) -> u32
         requires magnitudes { (length ms.now ≡ length self.residuals.now)

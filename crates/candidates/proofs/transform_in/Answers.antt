@@ -20,5 +20,5 @@ returns c =
     let l = c.args.log2 in
     let i = in_range l c.requires.0 c.requires.1 in
     c.trans.ensures.buffer
-    ∙ ap (λ (b : List ℤ). trans_buffer (called b l l)) c.copy.ensures
+    ∙ ap (λ (b : List ℤ). trans_buffer (called b l l)) c.copy_from_slice.ensures.after
     ∙ block_leaves (called c.args.residuals.now l l) i i c.requires.2 c.requires.4
