@@ -23,6 +23,7 @@ use heights::Heights;
 use order::{gather, magnitudes};
 use price::{costs_of, lambda_whole};
 use refusals::Refused;
+use refusals::ranges::{Qp, Side};
 use scaling::scale::Scale;
 use scan::Scan;
 use transform::trans;
@@ -36,12 +37,14 @@ fn terms_of(costs: &[u64; 28], coding: Coding, heights: Heights) -> Terms
     ensures { TermsOf (costs_of costs.now) coding heights result }
 {
     let settings = coding.settings;
+    let side = Side { log2: coding.log2 };
+    let qp = Qp { qp: settings.qp };
     let lambda = lambda_whole(settings.lambda);
     let at = Contexts::of(coding.component, coding.intra_coded);
     Terms {
         weights: Weights {
             prices: at.prices(costs_of(costs), lambda),
-            scale: Scale::of(coding.log2, settings.qp),
+            scale: Scale::of(side, qp),
         },
         log2: coding.log2,
         qp: settings.qp,
@@ -86,7 +89,8 @@ pub fn repair(
 {
     let n = residuals.len();
     let mut room = [0u16; 1024];
-    let scan = Scan::square(coding.log2, &mut room[..n]);
+    let side = Side { log2: coding.log2 };
+    let scan = Scan::square(side, &mut room[..n]);
     let mut coefs = [0i16; 1024];
     let coefs = &mut coefs[..n];
     transform_in(residuals, coefs, coding.log2);

@@ -4,10 +4,8 @@
 
 mod scans;
 
-ghost use Rattle.std.specs.Prelude.{◌≡◌, ◌≤◌, ◌<◌, ◌*◌, ◌^◌, length, get_or, set};
-ghost use Rattle.refusals.specs.Sides.{most_log2};
-ghost use Rattle.integers.specs.Sum.{at};
-ghost use Rattle.scan.specs.Scan.{most_places, scan, scan_at, square_scan};
+ghost use Rattle.std.specs.Prelude.{◌≡◌, ◌<◌, ◌*◌, ◌^◌, length, get_or, set};
+ghost use Rattle.scan.specs.Scan.{most_places, scan_at, square_scan};
 ghost use Rattle.scan.specs.Scanned.{Scanned};
 
 use crate::scans::SCANS;
@@ -89,52 +87,4 @@ pub fn put<T: Copy>(values: &mut [T], place: BlockPlace, value: T)
     ensures { values.new ≡ set values.old place.0 value }
 {
     values[place.0] = value;
-}
-
-// ---- for the crates that are not converted yet; these go
-pub fn fill_scan(log2: usize, held: &mut [u16])
-    requires { (1 ≤ log2) × (log2 ≤ most_log2) × (length held.old ≡ 4 ^ log2) }
-    ensures { held.new ≡ square_scan log2 }
-{
-    held.copy_from_slice(listed(Side { log2 }));
-}
-
-pub fn block_place(held: &[u16], w: usize, h: usize, p: ScanPlace) -> BlockPlace
-    requires { (held.now ≡ scan w h) × (p.0 < length held.now) × (1 ≤ w) × (1 ≤ h) × (w * h ≤ most_places) }
-    ensures { (result.0 ≡ scan_at w h p.0) × (result.0 < w * h) × (result.0 < most_places) }
-{
-    let at = p.0;
-    BlockPlace(held[at] as usize)
-}
-
-pub fn magnitude_at(magnitudes: &[u16], place: BlockPlace) -> u16
-    requires { place.0 < length magnitudes.now }
-    ensures { result ≡ get_or magnitudes.now place.0 0 }
-{
-    let at = place.0;
-    magnitudes[at]
-}
-
-pub fn put_magnitude(magnitudes: &mut [u16], place: BlockPlace, value: u16)
-    requires { place.0 < length magnitudes.old }
-    ensures { magnitudes.new ≡ set magnitudes.old place.0 value }
-{
-    let at = place.0;
-    magnitudes[at] = value;
-}
-
-pub fn level_at(levels: &[i16], place: BlockPlace) -> i16
-    requires { place.0 < length levels.now }
-    ensures { result ≡ at levels.now place.0 }
-{
-    let i = place.0;
-    levels[i]
-}
-
-pub fn put_level(levels: &mut [i16], place: BlockPlace, value: i16)
-    requires { place.0 < length levels.old }
-    ensures { levels.new ≡ set levels.old place.0 value }
-{
-    let i = place.0;
-    levels[i] = value;
 }

@@ -27,7 +27,7 @@ slice_bounds-square-end c = let g = c.requires.guardable in sym (part _ _ g.long
 pub square-scan-requires : goal.square-scan-requires
 square-scan-requires c =
     let g = c.requires.guardable in
-    (g.low, g.high, part _ _ g.long g.high ∙ g.long ∙ sym (area_is c.args.coding.log2 g.high))
+    part _ _ g.long g.high ∙ g.long ∙ sym (area_is c.args.coding.log2 g.high)
 
 pub read_along-requires-2 : goal.read_along-requires-2
 read_along-requires-2 c =
