@@ -53,13 +53,13 @@ fn terms_of(costs: &[u64; 28], coding: Coding, heights: Heights) -> Terms
 }
 
 // The residuals' coefficients. Their transform is not refused.
-fn transform_in(residuals: &[i16], coefs: &mut [i16], log2: usize)
-    requires { (1 ≤ log2) × (log2 ≤ most_log2) × (length residuals.now ≡ 2 ^ log2 * 2 ^ log2)
+fn transform_in(residuals: &[i16], coefs: &mut [i16], side: Side)
+    requires { (length residuals.now ≡ 2 ^ side.log2 * 2 ^ side.log2)
         × (length coefs.old ≡ length residuals.now) × (some wild residuals.now ≡ false) }
-    ensures { coefs.new ≡ coefficients residuals.now log2 log2 }
+    ensures { coefs.new ≡ coefficients residuals.now side.log2 side.log2 }
 {
     coefs.copy_from_slice(residuals);
-    let _ = trans(coefs, log2, log2);
+    let _ = trans(coefs, side.log2, side.log2);
 }
 
 // The magnitudes of a block, in scan order.
@@ -93,7 +93,7 @@ pub fn repair(
     let scan = Scan::square(side, &mut room[..n]);
     let mut coefs = [0i16; 1024];
     let coefs = &mut coefs[..n];
-    transform_in(residuals, coefs, coding.log2);
+    transform_in(residuals, coefs, side);
     let mut rows = [0u16; 1024];
     let rows = &mut rows[..n];
     let mut places = [0u16; 1024];

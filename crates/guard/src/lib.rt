@@ -16,6 +16,7 @@ use components::Request;
 use guarding::Guarded;
 use heights::{Extremes, Heights};
 use measure::look;
+use refusals::ranges::{Qp, Side};
 use refusals::{Component, Refused, Three};
 use stretch::{code_component, coding_of};
 
@@ -41,7 +42,11 @@ pub fn guard(
     ensures { Held (guard_by residuals.now (costs_of costs.now) coding h)
         levels.new result }
 {
-    let e = look(residuals, levels, shown, coding.log2, coding.settings.qp);
+    let side = Side { log2: coding.log2 };
+    let qp = Qp {
+        qp: coding.settings.qp,
+    };
+    let e = look(residuals, levels, shown, side, qp);
     if within(e, h) {
         return Ok(Guarded {
             count: coded.count,

@@ -4,7 +4,6 @@
 #![tactic(auto)]
 
 ghost use Rattle.std.specs.Prelude.{◌≡◌, ◌*◌, ◌^◌, ◌≤◌, length};
-ghost use Rattle.refusals.specs.Sides.{most_log2};
 ghost use Rattle.tables.specs.Scales.{back};
 ghost use Rattle.heights.specs.Extremes.{above, darker, lighter, decoded, extremes};
 ghost use Rattle.heights.specs.Call.{lent, measure_answer, measure_outcome};
@@ -54,22 +53,15 @@ fn decode(levels: &[i16], shown: &mut [i16], side: Side, qp: Qp)
 
 // How far what the viewer makes of the levels lies from the residuals at most; `shown` is a room to decode in. Levels
 // that are 0 throughout are what they are decoded to.
-pub fn look(
-    residuals: &[i16],
-    levels: &[i16],
-    shown: &mut [i16],
-    log2_side: usize,
-    qp: u32,
-) -> Extremes
-    requires le_log2_side { (1 ≤ log2_side) × (log2_side ≤ most_log2) × (qp ≤ 63) }
-    requires residuals_len { (length residuals.now ≡ 2 ^ log2_side * 2 ^ log2_side)
+pub fn look(residuals: &[i16], levels: &[i16], shown: &mut [i16], side: Side, qp: Qp) -> Extremes
+    requires { (length residuals.now ≡ 2 ^ side.log2 * 2 ^ side.log2)
         × (length levels.now ≡ length residuals.now) × (length shown.old ≡ length residuals.now) }
-    ensures { result ≡ extremes back log2_side qp residuals.now levels.now }
+    ensures { result ≡ extremes back side.log2 qp.qp residuals.now levels.now }
 {
     if largest(levels) == 0 {
         return apart(residuals, levels);
     }
-    decode(levels, shown, Side { log2: log2_side }, Qp { qp });
+    decode(levels, shown, side, qp);
     apart(residuals, shown)
 }
 
@@ -92,11 +84,5 @@ pub fn measure(
         return Err(Refusal::Length);
     }
     let mut shown = [0i16; 1024];
-    Ok(look(
-        &residuals[..n],
-        &levels[..n],
-        &mut shown[..n],
-        side.log2,
-        qp.qp,
-    ))
+    Ok(look(&residuals[..n], &levels[..n], &mut shown[..n], side, qp))
 }

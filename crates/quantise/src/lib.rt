@@ -15,7 +15,7 @@ use coefficients::skip::{largest, skipped_top};
 use contexts::Contexts;
 use price::{costs_of, costs_refused, lambda_refused, lambda_whole};
 use refusals::ranges::{Qp, Side};
-use refusals::{Refusal, Refused, no_side, side};
+use refusals::{Refusal, Refused};
 use rooms::code_levels;
 use scaling::scale::{Scale, skip_threshold};
 use weights::Weights;
@@ -101,9 +101,7 @@ pub fn quant_nnz(block: &mut [i16], costs: &[u64; 28], coding: Coding) -> Result
 {
     let component = coding.component;
     let settings = coding.settings;
-    if no_side(coding.log2) {
-        return Err(Refusal::Side.into());
-    }
+    let side = Side::try_from(coding.log2)?;
     if MOST_QP < settings.qp {
         return Err(Refused {
             why: Refusal::Qp,
@@ -119,7 +117,7 @@ pub fn quant_nnz(block: &mut [i16], costs: &[u64; 28], coding: Coding) -> Result
     if costs_refused(costs) {
         return Err(Refusal::Cost.into());
     }
-    let a = side(coding.log2);
+    let a = side.length();
     let n = a * a;
     if block.len() < n {
         return Err(Refusal::Length.into());

@@ -5,11 +5,10 @@
 
 pub mod ranges;
 
-ghost use Rattle.std.specs.Prelude.{◌≡◌, ◌^◌, ◌≤◌};
+ghost use Rattle.std.specs.Prelude.{◌≡◌};
 ghost use Rattle.refusals.specs.Numbers.{number_of, component_of};
 ghost use Rattle.refusals.specs.Three.{part_of};
-ghost use Rattle.refusals.specs.Sides.{most_log2};
-ghost use Rattle.refusals.specs.Faults.{outside, of_whole};
+ghost use Rattle.refusals.specs.Faults.{of_whole};
 
 #[derive(Clone, Copy)]
 pub enum Refusal {
@@ -105,26 +104,5 @@ impl<T: Copy> Three<T> {
             Component::U => self.u,
             Component::V => self.v,
         }
-    }
-}
-
-// 1 SIDE, of one log2 side.
-pub fn no_side(log2: usize) -> bool
-    ensures { result ≡ outside 1 most_log2 log2 }
-{
-    log2 < 1 || 5 < log2
-}
-
-// The side of a log2 side. By cases, so that the compiler knows how large it can be.
-pub fn side(log2: usize) -> usize
-    requires { (1 ≤ log2) × (log2 ≤ most_log2) }
-    ensures { (result ≡ 2 ^ log2) × (result ≤ 32) }
-{
-    match log2 {
-        1 => 2,
-        2 => 4,
-        3 => 8,
-        4 => 16,
-        _ => 32,
     }
 }

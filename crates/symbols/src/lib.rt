@@ -10,7 +10,8 @@ ghost use Rattle.runs.specs.Call.{reading, read_verdict, read_buffer};
 
 use coefficients::skip::largest;
 use reader::{misread, read};
-use refusals::{Refusal, no_side, side};
+use refusals::Refusal;
+use refusals::ranges::Side;
 use writer::{count_levels, write};
 
 // The magnitude that no level may have: its negation alone fits 16 bits.
@@ -24,10 +25,8 @@ pub fn write_symbols(block: &[i16], log2_side: usize, list: &mut [u32]) -> Resul
     ensures list { list.new
         ≡ write_list (writing block.now log2_side list.old) }
 {
-    if no_side(log2_side) {
-        return Err(Refusal::Side);
-    }
-    let a = side(log2_side);
+    let side = Side::try_from(log2_side)?;
+    let a = side.length();
     let n = a * a;
     if block.len() < n {
         return Err(Refusal::Length);
@@ -64,10 +63,8 @@ pub fn read_symbols(list: &[u32], block: &mut [i16], log2_side: usize) -> Result
     ensures block { block.new
         ≡ read_buffer (reading list.now block.old log2_side) }
 {
-    if no_side(log2_side) {
-        return Err(Refusal::Side);
-    }
-    let a = side(log2_side);
+    let side = Side::try_from(log2_side)?;
+    let a = side.length();
     let n = a * a;
     if block.len() < n {
         return Err(Refusal::Length);

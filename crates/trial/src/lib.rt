@@ -13,6 +13,7 @@ use guarding::Guarded;
 use heights::Heights;
 use measure::look;
 use order::spread;
+use refusals::ranges::{Qp, Side};
 use scaling::scale::Scale;
 use scan::Scan;
 use signs::put_signs;
@@ -87,7 +88,9 @@ impl<'a, 's> Block<'a, 's> {
             return None;
         }
         let count = self.write_levels(ms, levels, rows);
-        let off = look(self.residuals, levels, shown, terms.log2, terms.qp);
+        let side = Side { log2: terms.log2 };
+        let qp = Qp { qp: terms.qp };
+        let off = look(self.residuals, levels, shown, side, qp);
         let most = terms.heights;
         if most.darker < off.darker || most.lighter < off.lighter {
             return None;

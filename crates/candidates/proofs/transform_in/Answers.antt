@@ -17,8 +17,8 @@ in_range l g h = rw (le-leb 1 l g, le-leb l most_log2 h)
 pub returns : goal.returns
 unfolding places
 returns c =
-    let l = c.args.log2 in
-    let i = in_range l c.requires.0 c.requires.1 in
+    let l = c.args.side.log2 in
+    let i = in_range l c.args.side.in_range.0 c.args.side.in_range.1 in
     c.trans.ensures.buffer
     ∙ ap (λ (b : List ℤ). trans_buffer (called b l l)) c.copy_from_slice.ensures.after
-    ∙ block_leaves (called c.args.residuals.now l l) i i c.requires.2 c.requires.4
+    ∙ block_leaves (called c.args.residuals.now l l) i i c.requires.0 c.requires.2

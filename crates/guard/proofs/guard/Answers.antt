@@ -3,11 +3,14 @@ use mathlib.Core.Path.{sym, ◌∙◌}
 use Rattle.guard.proofs.Kept.{qp_fine, as_long, fits_within, kept_within}
 use Rattle.guard.proofs.guard.Goals as goal
 
-pub look-e-requires-clause-le_log2_side : goal.look-e-requires-clause-le_log2_side
-look-e-requires-clause-le_log2_side c = let given = c.requires.guardable in (given.low, given.high, qp_fine given)
+pub invariant_of-side : goal.invariant_of-side
+invariant_of-side c = let given = c.requires.guardable in record { in_range = (given.low, given.high) }
 
-pub look-e-requires-clause-residuals_len : goal.look-e-requires-clause-residuals_len
-look-e-requires-clause-residuals_len c = let given = c.requires.guardable in (given.long, as_long given, given.room)
+pub invariant_of-qp : goal.invariant_of-qp
+invariant_of-qp c = record { in_range = qp_fine c.requires.guardable }
+
+pub look-e-requires : goal.look-e-requires
+look-e-requires c = let given = c.requires.guardable in (given.long, as_long given, given.room)
 
 pub returns-then-within : goal.returns-then-within
 returns-then-within c =

@@ -13,13 +13,13 @@ returns-then-largest-eq0 c =
     let levels = a.levels.now in
     -- no level is left
     let blank : over on_max nat_abs levels ≡ 0 = sym c.largest.ensures.is ∙ c.if-largest-eq0.true in
-    let long = c.requires.residuals_len in
-    extremes_are back a.log2_side a.qp a.residuals.now levels levels c.apart.result long.0
-    (zeros_decoded back a.log2_side a.qp levels (long.1 ∙ long.0) blank)
+    let long = c.requires in
+    extremes_are back a.side.log2 a.qp.qp a.residuals.now levels levels c.apart.result long.0
+    (zeros_decoded back a.side.log2 a.qp.qp levels (long.1 ∙ long.0) blank)
     c.apart.ensures.0 c.apart.ensures.1
 
 pub returns : goal.returns
 returns c =
     let a = c.args in
-    extremes_are back a.log2_side a.qp a.residuals.now a.levels.now _ c.apart-2.result c.requires.residuals_len.0
+    extremes_are back a.side.log2 a.qp.qp a.residuals.now a.levels.now _ c.apart-2.result c.requires.0
     c.decode.ensures c.apart-2.ensures.0 c.apart-2.ensures.1

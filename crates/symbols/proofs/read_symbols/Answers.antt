@@ -9,8 +9,8 @@ use Rattle.symbols.proofs.read_symbols.Goals as goal
 pub returns-clause-block : goal.returns-clause-block
 unfolding read_buffer read_verdict
 returns-clause-block c =
-    let area = ap (λ (m : ℕ). m * m) c.side-a.ensures.0 in
-    let n = c.side-a.result * c.side-a.result in
-    let left = laid_off c.args.log2_side (sym c.no_side.ensures ∙ c.if-no_side.false) c.args.block.now c.args.list.now n
+    let area = ap (λ (m : ℕ). m * m) (rw c.in_ok-side.ensures.0 at c.length-a.ensures.0) in
+    let n = c.length-a.result * c.length-a.result in
+    let left = laid_off c.args.log2_side c.in_ok-side.ensures.1 c.args.block.now c.args.list.now n
     area c.if-block-n.false (sym c.misread.ensures ∙ c.if-misread.false) in
     grind (arith, nat_tests)

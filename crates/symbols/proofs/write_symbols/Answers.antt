@@ -11,10 +11,10 @@ use Rattle.symbols.proofs.write_symbols.Goals as goal
 pub write-requires-clause-square : goal.write-requires-clause-square
 write-requires-clause-square c =
     let top = c.largest.ensures in
-    let a = c.side-a.result in
-    let area : a * a ≡ 2 ^ c.args.log2_side * 2 ^ c.args.log2_side = ap (λ (m : ℕ). m * m) c.side-a.ensures.0 in (
+    let a = c.length-a.result in
+    let area : a * a ≡ 2 ^ c.args.log2_side * 2 ^ c.args.log2_side = ap (λ (m : ℕ). m * m) (rw c.in_ok-side.ensures.0 at c.length-a.ensures.0) in (
       record {
-        side = sym c.no_side.ensures ∙ c.if-no_side.false;
+        side = c.in_ok-side.ensures.1;
         room = length-take-le (a * a) c.args.block.now c.if-block-n.false ∙ area;
       },
       λ k. omega (arith, within_largest (take (a * a) c.args.block.now) k, top.is, top.small, c.if-largest-eq-LOWEST.false),
@@ -23,7 +23,7 @@ write-requires-clause-square c =
 pub returns-clause-list : goal.returns-clause-list
 unfolding write_list write_verdict
 returns-clause-list c =
-    let area = ap (λ (m : ℕ). m * m) c.side-a.ensures.0 in
-    let left = c.write.ensures ∙ written c.args.log2_side (sym c.no_side.ensures ∙ c.if-no_side.false) c.args.block.now
+    let area = ap (λ (m : ℕ). m * m) (rw c.in_ok-side.ensures.0 at c.length-a.ensures.0) in
+    let left = c.write.ensures ∙ written c.args.log2_side c.in_ok-side.ensures.1 c.args.block.now
     c.args.list.now _ area _ c.count_levels-count.ensures in
     grind (arith, nat_tests)
