@@ -23,7 +23,7 @@ use Rattle.ahead.specs.declared.Ahead.{Ahead}
 use Rattle.ahead.specs.declared.Taken.{Taken}
 use Rattle.ahead.specs.declared.Weighed.{Weighed}
 use Rattle.ahead.specs.Inner.Ahead.{passed_by, Ready, WeighedBy}
-use Rattle.passes.specs.Inner.Passes.{Held, from, Known, Ends, Takes, nothing, Decided}
+use Rattle.passes.specs.Inner.Passes.{Held, from, Known, Ends, Takes, nothing, passed, Decided}
 use Rattle.passes.proofs.Holding.{held_small, passed_taken, passed_held, none_held}
 use Rattle.passes.proofs.Choosing.{weighed_zero, weighed_level, weighed_on, weighed_held}
 
@@ -116,18 +116,18 @@ module _ (given : Kept) (end : ℕ) (ends : Ends given end) where
         put n (λ (j : ℕ) (b : Taken). j < end → Takes given j b) all a (omega (arith, inside_n, i.room)) (λ l. here)
         i.decided
 
-    pub passes : kept n ≡ 0 → Looking given end (set all n nothing) (passed_by p t) n
+    pub passes : kept n ≡ 0 → Looking given end (set all n passed) (passed_by p t) n
     passes e =
         let L : get_or ps n 0 ≡ 0 = here ∙ ap (λ (a : ℕ). a * g.q) e ∙ zero-mul g.q in
         record {
           place = omega (arith, i.place);
           known = known_by 0 (passed_by p t) L (passed_held p g (area - suc n) (from given (suc n)) t i.known);
-          decided = decides nothing (record {
+          decided = decides passed (record {
             zero = rw L (sym (passed_taken p g true (from given (suc n)) (ahead r (from given (suc n)))));
             level = rw L (sym (passed_taken p g false (from given (suc n)) (ahead r (from given (suc n)))));
             on = λ o. absurd (omega arith);
           });
-          room = length-set all n nothing ∙ i.room;
+          room = length-set all n passed ∙ i.room;
         }
 
     module _ (o : 1 ≤ kept n) where
@@ -167,7 +167,7 @@ module _ (given : Kept) (end : ℕ) (ends : Ends given end) where
     small_at = (small all t (m - 1) behind).0
 
     module _ {a : ℕ} (is : a ≡ kept (m - 1)) where
-      pub passes_at : a ≡ 0 → (v : Ahead) → v ≡ passed_by p t → Looking given end (set all (m - 1) nothing) v (m - 1)
+      pub passes_at : a ≡ 0 → (v : Ahead) → v ≡ passed_by p t → Looking given end (set all (m - 1) passed) v (m - 1)
       passes_at e v q = rw q (passes all t (m - 1) behind (sym is ∙ e))
 
       module _ (nonzero : a ≡ 0 → ⊥) where

@@ -20,7 +20,7 @@ use Rattle.weights.specs.Inner.Prices.{rule_by}
 use Rattle.weights.specs.Inner.Places.{kept_at}
 use Rattle.weights.specs.Inner.Chosen.{rule_of, places_of, Blank}
 use Rattle.weights.proofs.Places.{places_count, place_at, nothing_there, some_kept}
-use Rattle.weights.proofs.Filling.{Filled, filled_none, filled_zero, filled_next, filled_all}
+use Rattle.weights.proofs.Filling.{Filled, filled_none, filled_next, filled_all}
 use Rattle.ahead.specs.declared.Taken.{Taken}
 use Rattle.passes.specs.Inner.Passes.{Ends, Takes, taken_after, ReadOff}
 
@@ -145,7 +145,8 @@ module _ (given : Kept) where
         }
 
     module _ (levels : List ℕ) (prev n : ℕ) (i : Reading levels prev n) (lt : n < end) (t : Taken)
-        (takes : Takes given n t) (a : ℕ) (chose : a ≡ taken_after t prev) where
+        (takes : Takes given n t) (a : ℕ) (chose : a ≡ taken_after t prev) (after : List ℕ)
+        (puts : after ≡ set levels (scan_at width height n) a) where
       inside : n < width * height
       inside = omega (arith, ends.within)
 
@@ -171,39 +172,35 @@ module _ (given : Kept) where
           let s = one_place r (is_zero prev) ps ls n (omega (arith, inside, places_many)) i.going in
           (s.0 ∙ sym is_taken, rw is_taken s.1)
 
-      further : (1 ≤ a → t.goes_on ≡ true) → drop (n + 1) ls ≡ read_off r (is_zero a) (drop (n + 1) ps)
-      further on =
-          goes r (drop (suc n) ps) (drop (n + 1) ls) a (goes_on_at r ps n) place.1
-          (λ some. sym (takes.on (kept_there some)) ∙ on some)
-          ∙ ap (λ (k : ℕ). read_off r (is_zero a) (drop k ps)) (sym (add-one n))
+      room : length after ≡ width * height
+      room = ap length puts ∙ length-set levels (scan_at width height n) a ∙ i.room
 
-      -- a 0 stands there already
-      pub zero_taken : a ≡ 0 → Reading levels a (n + 1)
-      zero_taken e =
+      standing : Filled width height (n + 1) after ls
+      standing =
+          rw puts
+          (filled_next width height levels ls n inside _ given.scan.scanned i.room a place.0 i.standing)
+
+      pub goes_further : (1 ≤ a → t.goes_on ≡ true) → Reading after a (n + 1)
+      goes_further on =
           record {
-            room = i.room;
-            standing = filled_zero width height levels ls n inside (place.0 ∙ e) i.standing;
-            going = further (λ some. absurd (omega arith));
+            room = room;
+            standing = standing;
+            going =
+                goes r (drop (suc n) ps) (drop (n + 1) ls) a (goes_on_at r ps n) place.1
+                (λ some. sym (takes.on (kept_there some)) ∙ on some)
+                ∙ ap (λ (k : ℕ). read_off r (is_zero a) (drop k ps)) (sym (add-one n));
           }
 
-      module _ (some : a ≡ 0 → ⊥) (after : List ℕ) (puts : after ≡ set levels (scan_at width height n) a) where
-        room : length after ≡ width * height
-        room = ap length puts ∙ length-set levels (scan_at width height n) a ∙ i.room
-
-        standing : Filled width height (n + 1) after ls
-        standing =
-            rw puts (filled_next width height levels ls n inside _ given.scan.scanned i.room a place.0 i.standing)
-
-        pub goes_further : t.goes_on ≡ true → Reading after a (n + 1)
-        goes_further on = record { room = room; standing = standing; going = further (λ some. on) }
-
-        pub stops : t.goes_on ≡ false → ReadOff given after
-        stops off =
-            record { room = room; levels = filled_all width height after ls (n + 1) behind standing }
-          where
-            behind : (k : ℕ) → n + 1 ≤ k → get_or ls k 0 ≡ 0
-            behind k h =
-                ap (λ (j : ℕ). get_or ls j 0) (let s : k ≡ n + 1 + (k - (n + 1)) = omega arith in s)
-                ∙ sym (get_or-drop (n + 1) ls (k - (n + 1)) 0)
-                ∙ ends_there r (drop (suc n) ps) (drop (n + 1) ls) a (goes_on_at r ps n) place.1 (some_kept _ some)
-                (sym (takes.on (kept_there (some_kept _ some))) ∙ off) (k - (n + 1))
+      pub stops : 1 ≤ a → t.goes_on ≡ false → ReadOff given after
+      stops some off =
+          record {
+            room = room;
+            levels = filled_all width height after ls (n + 1) behind standing;
+          }
+        where
+          behind : (k : ℕ) → n + 1 ≤ k → get_or ls k 0 ≡ 0
+          behind k h =
+              ap (λ (j : ℕ). get_or ls j 0) (let s : k ≡ n + 1 + (k - (n + 1)) = omega arith in s)
+              ∙ sym (get_or-drop (n + 1) ls (k - (n + 1)) 0)
+              ∙ ends_there r (drop (suc n) ps) (drop (n + 1) ls) a (goes_on_at r ps n) place.1 some
+              (sym (takes.on (kept_there some)) ∙ off) (k - (n + 1))

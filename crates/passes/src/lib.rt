@@ -14,11 +14,16 @@ use weights::kept::Kept;
 // The least price where there is none: 2^63, which no price reaches.
 const NO_PRICE: u64 = 9223372036854775808;
 
-// What a place takes where nothing is kept.
+// What a place takes that is not met yet, and one where nothing is kept: its 0 goes on, as nearly every place does.
 pub const NOTHING: Taken = Taken {
     after_zero: 0,
     after_level: 0,
     goes_on: false,
+};
+
+const PASSED: Taken = Taken {
+    goes_on: true,
+    ..NOTHING
 };
 
 // How many places come up to and with the last one where something is kept.
@@ -53,7 +58,7 @@ pub fn look_back(kept: Kept, end: usize, taken: &mut [Taken]) -> Ahead
         let a = value_at(kept.magnitudes, kept.scan.block_place(scan_place(n)));
         if a == 0 {
             ahead = ahead.pass(weights.prices);
-            taken[n] = NOTHING;
+            taken[n] = PASSED;
         } else {
             let weighed = ahead.weigh(weights, a as u64 * weights.scale.q as u64);
             ahead = weighed.ahead;
@@ -74,7 +79,7 @@ fn after(taken: Taken, prev: u16) -> u16
     }
 }
 
-// The magnitudes taken that are not 0, from the first place on until one is the last.
+// The magnitudes taken, from the first place on until one is the last.
 pub fn read_off(kept: Kept, end: usize, taken: &[Taken], levels: &mut [u16])
     requires { Ends kept end × (length taken.now ≡ kept.scan.w * kept.scan.h) × Decided kept 0 end taken.now
         × Blank kept levels.old }
@@ -84,11 +89,9 @@ pub fn read_off(kept: Kept, end: usize, taken: &[Taken], levels: &mut [u16])
     for n in 0..end {
         let here = taken[n];
         let a = after(here, prev);
-        if a != 0 {
-            put(levels, kept.scan.block_place(scan_place(n)), a);
-            if !here.goes_on {
-                return;
-            }
+        put(levels, kept.scan.block_place(scan_place(n)), a);
+        if !here.goes_on && a != 0 {
+            return;
         }
         prev = a;
     }

@@ -49,6 +49,10 @@ pub record Takes (k : Kept) (n : ℕ) (t : Taken) : Type 0 where
 abbrev pub nothing : Taken
 nothing = record { after_zero = 0; after_level = 0; goes_on = false }
 
+-- where nothing is kept
+abbrev pub passed : Taken
+passed = record { after_zero = 0; after_level = 0; goes_on = true }
+
 -- each place from n to `end`
 abbrev pub Decided : Kept → (n end : ℕ) → List Taken → Type 0
 Decided k n end all = (j : ℕ) → n ≤ j → j < end → Takes k j (get_or all j nothing)
