@@ -26,12 +26,14 @@ pub fn galemosu_version() -> u32
     600
 }
 
+// Kept: each function is a call of its like in `wire`: these are the names that the exports and a Rust host go by.
 pub fn galemosu_transform(block: &mut [i16], log2_w: usize, log2_h: usize) -> u32
     ensures { TransLeft (called block.old log2_w log2_h) result block.new }
 {
     transform(block, log2_w, log2_h)
 }
 
+// Kept: one function for each component: the C interface has these three names, and a C call has no `Component`.
 pub fn galemosu_quantise_y(
     block: &mut [i16],
     log2_side: usize,

@@ -27,6 +27,7 @@ pub extern "C" fn galemosu_transform(block: &mut [i16], log2_w: usize, log2_h: u
     galemosu::galemosu_transform(block, log2_w, log2_h)
 }
 
+// Kept: one export for each component: these names are the C interface.
 #[unsafe(no_mangle)]
 pub extern "C" fn galemosu_quantise_y(
     block: &mut [i16],

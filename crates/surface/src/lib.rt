@@ -66,6 +66,7 @@ pub fn coding_of(component: Component, log2_side: usize, qp: u32, lambda: f64, f
 }
 
 // What the quantiser answered, as its result and its answer.
+// Kept: answers as arrays of numbers, here and below: they are the C interface.
 pub fn put_quant(coded: Result<Coded, Refused>, answer: &mut [u64; 3]) -> u32
     ensures result { result ≡ result_of (quant_outcome coded) }
     ensures answer { answer.new ≡ quant_written (quant_outcome coded) }

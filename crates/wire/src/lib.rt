@@ -20,6 +20,7 @@ use surface::{
 };
 use transform::trans;
 
+// Kept: flat arguments that travel together, here and below: they are the C interface.
 pub fn transform(block: &mut [i16], log2_w: usize, log2_h: usize) -> u32
     ensures { TransLeft (called block.old log2_w log2_h) result block.new }
 {
