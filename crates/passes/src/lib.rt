@@ -3,12 +3,13 @@
 // are the search's (specs/Inner/Search.antt of `price`).
 #![tactic(auto)]
 
-ghost use Rattle.std.specs.Prelude.{◌≡◌, ◌*◌, length};
-ghost use Rattle.weights.specs.Inner.Chosen.{Blank};
+ghost use Rattle.std.specs.Prelude.{◌≡◌, ◌*◌, ◌≤◌, length};
+ghost use Rattle.weights.specs.declared.kept.Kept.{Kept};
+ghost use Rattle.weights.specs.Inner.Places.{Cleared};
 ghost use Rattle.passes.specs.Inner.Passes.{Ends, Known, Decided, taken_after, ReadOff};
 
 use ahead::{Ahead, Taken};
-use scan::{put, scan_place, value_at};
+use scan::{Scan, put, scan_place, value_at};
 use weights::kept::Kept;
 
 // The least price where there is none: 2^63, which no price reaches.
@@ -79,17 +80,19 @@ fn after(taken: Taken, prev: u16) -> u16
     }
 }
 
-// The magnitudes taken, from the first place on until one is the last.
-pub fn read_off(kept: Kept, end: usize, taken: &[Taken], levels: &mut [u16])
-    requires { Ends kept end × (length taken.now ≡ kept.scan.w * kept.scan.h) × Decided kept 0 end taken.now
-        × Blank kept levels.old }
-    ensures { ReadOff kept.entry levels.new }
+// The magnitudes taken, from the first place on until one is the last: those of every block that is so decided.
+pub fn read_off(scan: Scan, end: usize, taken: &[Taken], levels: &mut [u16])
+    requires rooms { (end ≤ scan.w * scan.h) × (length taken.now ≡ scan.w * scan.h)
+        × (length levels.old ≡ scan.w * scan.h) }
+    requires cleared { Cleared levels.old }
+    ensures { (kept : Kept) → kept.scan.w ≡ scan.entry.w → kept.scan.h ≡ scan.entry.h → Ends kept end
+        → Decided kept 0 end taken.now → ReadOff kept levels.new }
 {
     let mut prev: u16 = 1;
     for n in 0..end {
         let here = taken[n];
         let a = after(here, prev);
-        put(levels, kept.scan.block_place(scan_place(n)), a);
+        put(levels, scan.block_place(scan_place(n)), a);
         if !here.goes_on && a != 0 {
             return;
         }

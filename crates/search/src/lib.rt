@@ -21,7 +21,7 @@ fn find_in(kept: Kept, levels: &mut [u16], taken: &mut [Taken]) -> u64
     let coded = kept.d - ahead.rest + ahead.level + prices.coded;
     let empty = kept.d + prices.empty;
     if coded < empty {
-        read_off(kept, end, taken, levels);
+        read_off(kept.scan, end, taken, levels);
         return coded;
     }
     empty

@@ -1,10 +1,13 @@
 -- Back along the scan, then forth where a block is strictly cheaper.
+use mathlib.Core.Path.{refl}
 use Rattle.search.proofs.Finding.{found_coded, found_empty}
 use Rattle.search.proofs.find_in.Goals as goal
 
 pub returns-then-coded-empty : goal.returns-then-coded-empty
 returns-then-coded-empty c =
-    found_coded _ _ c.look_back-ahead.ensures.0 c.if-coded-empty.true _ c.read_off.ensures
+    let back = c.look_back-ahead.ensures in
+    found_coded _ _ back.0 c.if-coded-empty.true _
+    (c.read_off.ensures c.args.kept refl refl c.last_place-end.ensures back.1)
 
 pub returns : goal.returns
 returns c = found_empty _ _ c.look_back-ahead.ensures.0 c.if-coded-empty.false _ c.requires.0
