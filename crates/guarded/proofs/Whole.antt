@@ -1,7 +1,7 @@
 -- The guarded call from its components: of each, what it answers and leaves past its early tests is what the definition
 -- says of it, so that the call is the definition's.
-use mathlib.Core.Path.{◌≡◌, refl, sym, ap, ◌∙◌}
-use mathlib.Core.Bool.{Bool, true, false, cond, ◌&&◌}
+use mathlib.Core.Path.{◌≡◌, refl, ap, ◌∙◌}
+use mathlib.Core.Bool.{cond}
 use mathlib.Core.List.{List}
 use lib.IntN.{ℤ}
 use Rattle.std.specs.Prelude.{Result}
@@ -9,18 +9,15 @@ use Rattle.refusals.specs.declared.Refused.{Refused}
 use Rattle.refusals.specs.declared.Three.{Three}
 use Rattle.refusals.specs.declared.Component.{Component}
 use Rattle.refusals.specs.declared.Component.TheVariants.{Y, U, «V»}
-use Rattle.refusals.specs.Numbers.{component_of}
-use Rattle.refusals.specs.Faults.{Outcome, accepted, passed, refused, verdict, answering}
-use Rattle.refusals.proofs.First.{or_else}
+use Rattle.refusals.specs.Faults.{accepted, passed, answering}
 use Rattle.price.specs.declared.Costs.{Costs}
 use Rattle.coding.specs.Block.{Quant, called}
 use Rattle.coding.specs.Call.{quant_verdict}
 use Rattle.components.specs.declared.Request.{Request}
 use Rattle.components.specs.Call.{SubBlock, requested, bit, runs, stretch, trans_of, quant_on, quant_of}
-use Rattle.components.specs.Inner.Groups.{late_faults, EarlyPassed}
-use Rattle.components.proofs.Alone.{quantiser_alone_is_late}
+use Rattle.components.specs.Inner.Groups.{EarlyPassed}
 use Rattle.heights.specs.declared.Heights.{Heights}
-use Rattle.guarding.specs.Block.{Guard, none_fits, reported, guarded_levels}
+use Rattle.guarding.specs.Block.{Guard, guarded_levels}
 use Rattle.guarding.specs.Call.{GuardedBlock, guarded_request, guard_of, guarded_verdict, nothing, share, guarded_answer}
 use Rattle.guarding.specs.Call.{levels, guarded_buffer, coded_buffer, guarded_outcome, Shares}
 use Rattle.guarding.specs.Inner.Held.{guard_by, held_answer}

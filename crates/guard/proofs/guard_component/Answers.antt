@@ -1,6 +1,6 @@
 -- `guard::guard_component` meets its contract: a refusal of the quantiser alone is handed on, a block that it accepts
 -- is guarded, and a component not run is left alone.
-use mathlib.Core.Path.{◌≡◌, sym, ◌∙◌}
+use mathlib.Core.Path.{sym, ◌∙◌}
 use lib.Seq.{length-take-le}
 use Rattle.std.proofs.lemmas.Result.{err_from_is_err_and}
 use Rattle.price.specs.Costs.{costs_of}
