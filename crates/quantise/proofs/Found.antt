@@ -200,7 +200,8 @@ module _ {B : List ℤ} {t : Costs} {k : Coding} (early : EarlyPassed B t k) {g 
 
             -- ---- nothing is wrong with it
             module _ (small : d ≤ 2 ^ 60) (on : Contexts) (rows : ContextsOf k.component k.intra_coded on)
-                {costs : Costs} (same : costs ≡ t) {p : Prices} (priced : PricesOf 32768 lambda costs (rows_in on) p) where
+                {costs : Costs} (same : costs ≡ t)
+                {p : Prices} (priced : PricesOf 32768 lambda costs (rows_in on) p) where
               lambda_is : lambda ≡ lambda_here asked
               unfolding lambda_here called
               lambda_is = weighed.is

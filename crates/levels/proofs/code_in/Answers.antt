@@ -30,7 +30,8 @@ square-scan-requires c =
 
 pub keep-count-requires : goal.keep-count-requires
 keep-count-requires c =
-    (c.requires.1.kept_room, omega (arith, c.requires.0.room, area_range most_log2 c.args.side.log2 c.args.side.in_range.1))
+    (c.requires.1.kept_room,
+     omega (arith, c.requires.0.room, area_range most_log2 c.args.side.log2 c.args.side.in_range.1))
 
 pub invariant_of-all : goal.invariant_of-all
 invariant_of-all c =
