@@ -5,6 +5,7 @@ ghost use Rattle.std.specs.Float.Ieee.{of_bits};
 ghost use Rattle.numerals.specs.Number.{natural_up_to, sample_of, bits_of, hex_digit};
 
 // The first of several digits is not 0. What is read passes the limit at no digit, so that nothing overflows.
+#[tactic(auto, using(crate::proofs::Reading::begun))]
 pub fn read_natural(word: &[u8], limit: u64) -> Option<u64>
     ensures { result ≡ natural_up_to limit word.now }
 {

@@ -2,10 +2,9 @@
 -- means.
 use Rattle.std.proofs.Common.{◌≡◌, ℕ, ◌<◌, ◌*◌, ◌+◌, ◌-◌, List, [], ◌∷◌, length, drop, get_or, None, sym, ap, ◌∙◌, arith}
 use Rattle.numerals.specs.Number.{natural_up_to}
-use Rattle.numerals.proofs.Reading.{a_digit, below_digits, above_digits, none_read, zero_led, begun}
+use Rattle.numerals.proofs.Reading.{a_digit, below_digits, above_digits, none_read, zero_led}
 use Rattle.numerals.proofs.Reading.{no_digit, digit_next, past_limit, all_read, read_from}
 use Rattle.numerals.proofs.number.read_natural.Goals as goal
-use Rattle.numerals.proofs.number.read_natural.Goals.{in_default, in_default-2}
 
 alone : (w : List ℕ) (limit : ℕ) → length w < 1 → natural_up_to limit w ≡ None
 alone [] limit e = none_read limit
@@ -16,16 +15,6 @@ returns-in-empty c = sym (alone _ _ c.in-empty.len_below)
 
 pub returns-in-empty-2 : goal.returns-in-empty-2
 returns-in-empty-2 c = sym (zero_led _ _ (omega arith) (omega arith))
-
-pub loop-byte-init : goal.loop-byte-init
-loop-byte-init c =
-    let w = c.args.word.now in (
-      omega arith,
-      elim c.if-word-lt2.branch [
-        | in_default s ↦ begun _ w (omega arith) (λ e. omega arith)
-        | in_default-2 s ↦ begun _ w (omega arith) (λ e. omega arith)
-      ],
-    )
 
 pub returns-in_default-byte : goal.returns-in_default-byte
 returns-in_default-byte c =
