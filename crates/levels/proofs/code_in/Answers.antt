@@ -29,9 +29,10 @@ square-scan-requires c =
     c.requires.1.scan_room ∙ c.requires.0.room ∙ sym (area_is c.args.side.log2 c.args.side.in_range.1)
 
 pub keep-count-requires : goal.keep-count-requires
-keep-count-requires c =
-    (c.requires.1.kept_room,
-     omega (arith, c.requires.0.room, area_range most_log2 c.args.side.log2 c.args.side.in_range.1))
+keep-count-requires c = (
+  c.requires.1.kept_room,
+  omega (arith, c.requires.0.room, area_range most_log2 c.args.side.log2 c.args.side.in_range.1),
+)
 
 pub invariant_of-all : goal.invariant_of-all
 invariant_of-all c =

@@ -21,4 +21,4 @@ returns c =
     ∙ ap (λ (x : List ℤ). residuals x l l)
     (c.rescale.ensures
     ∙ ap (map f)
-    (c.copy_from_slice.ensures.after ∙ sym (take_all (2 ^ l * 2 ^ l) levels (omega (arith, c.requires.levels_len.0)))))
+    (c.copy.ensures ∙ sym (take_all (2 ^ l * 2 ^ l) levels (omega (arith, c.requires.levels_len.0)))))
