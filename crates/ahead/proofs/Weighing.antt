@@ -36,8 +36,8 @@ taken_small p g L f offer o x y r c =
     omega (arith, c.level, one_of (ltb y x) offer.level 0 32767 k (omega arith))
 
 -- ---- the place
-module _ (p : Prices) (t : Ahead) (g : Scale) (L : ℕ) (offer : Offer) (o : Offered true p g L offer) (d behind : ℕ)
-    (hd : d ≡ distortion g.shift g.error L 0) (b : behind ≡ behind_by p t) where
+module _ (p : Prices) (t : Ahead) (g : Scale) (L : ℕ) (f : Fine p g L) (offer : Offer) (o : Offered true p g L offer)
+    (d behind : ℕ) (hd : d ≡ distortion g.shift g.error L 0) (b : behind ≡ behind_by p t) where
   weighed_as : (zr hr : ℕ) (r : Choice) → ChosenOf (t.zero + d + zr) (behind + offer.price + hr) offer.level r
       → ChosenOf (zero_by g t L + zr) (level_by p g t L + hr) (offered true p g L) r
   weighed_as zr hr r c = rw (← hd, ← b, ← o.is, ← o.price) c
@@ -57,4 +57,5 @@ module _ (p : Prices) (t : Ahead) (g : Scale) (L : ℕ) (offer : Offer) (o : Off
         rest = ap (λ (x : ℕ). t.rest + x) hd;
         on = e;
         offer = rw (← o.is, ← o.price) (o.some, o.small);
+        small = (taken_small p g L f offer o _ _ z cz, taken_small p g L f offer o _ _ n cn);
       }

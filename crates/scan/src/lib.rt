@@ -57,6 +57,14 @@ impl<'a> Scan<'a> {
         }
     }
 
+    // Of a block of any width and height, whose scan stands in what is lent.
+    pub fn over(held: &'a [u16], w: usize, h: usize) -> Scan<'a>
+        requires { Scanned w h held.now }
+        ensures { (result.w ≡ w) × (result.h ≡ h) × (result.held.now ≡ held.now) }
+    {
+        Scan { held, w, h }
+    }
+
     // The lookup.
     pub fn block_place(self, p: ScanPlace) -> BlockPlace
         requires { p.0 < self.w * self.h }
