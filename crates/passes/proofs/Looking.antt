@@ -111,9 +111,9 @@ module _ (given : Kept) (end : ℕ) (ends : Ends given end) where
     pub small : (t.zero ≤ 2 ^ 63 + 2 ^ 61) × (t.level ≤ 2 ^ 63 + 2 ^ 61)
     small = held_small p g (area - suc n) (from given (suc n)) t (omega (arith, given.scan.scanned.few)) i.known
 
-    decides : (a : Taken) → Takes given n a → Decided given n end (set all n a)
+    decides : (a : Taken) → Takes r ps n (kept n) a → Decided given n end (set all n a)
     decides a here =
-        put n (λ (j : ℕ) (b : Taken). j < end → Takes given j b) all a (omega (arith, inside_n, i.room)) (λ l. here)
+        put n (λ (j : ℕ) (b : Taken). j < end → Takes r ps j (kept j) b) all a (omega (arith, inside_n, i.room)) (λ l. here)
         i.decided
 
     pub passes : kept n ≡ 0 → Looking given end (set all n passed) (passed_by p t) n

@@ -5,24 +5,25 @@ use mathlib.Core.Path.{◌≡◌, refl, sym, ap, ◌∙◌}
 use mathlib.Core.Bool.{Bool, true, false, cond}
 use mathlib.Core.List.{List, [], ◌∷◌}
 use Prim.Native.Nat.{ℕ, zero, suc, ◌+◌, ◌-◌, ◌*◌, ◌≤◌, ◌<◌}
+use native.Mathlib.Nat.{zero-mul}
 use native.Mathlib.Numerals.{add-one}
 use native.Mathlib.Omega.{arith}
 use lib.ListN.{length, get_or, set, drop, length-set}
 use lib.Seq.{drop-cons, get_or-drop, drop-drop}
 use Rattle.scan.specs.Scan.{scan_at}
-use Rattle.price.specs.Level.{nearest}
+use Rattle.scan.specs.Scanned.{Scanned}
 use Rattle.price.specs.Rule.{Rule, is_zero}
 use Rattle.price.specs.Cheapest.{empty_block}
 use Rattle.price.specs.Inner.Search.{Ahead, ahead, taken, taken_by, goes_on, read_off}
 use Rattle.scaling.specs.declared.scale.Scale.{Scale}
-use Rattle.weights.specs.declared.kept.Kept.{Kept}
+use Rattle.scaling.proofs.Scaling.{nearest_of_0}
+use Rattle.weights.specs.declared.prices.Prices.{Prices}
 use Rattle.weights.specs.Inner.Prices.{rule_by}
-use Rattle.weights.specs.Inner.Places.{kept_at}
-use Rattle.weights.specs.Inner.Chosen.{rule_of, places_of, Blank}
-use Rattle.weights.proofs.Places.{places_count, place_at, nothing_there, some_kept}
+use Rattle.weights.specs.Inner.Places.{kept_at, kept_places, Cleared}
+use Rattle.weights.proofs.Places.{places_count, place_at, some_kept}
 use Rattle.weights.proofs.Filling.{Filled, filled_none, filled_next, filled_all}
 use Rattle.ahead.specs.declared.Taken.{Taken}
-use Rattle.passes.specs.Inner.Passes.{Ends, Takes, taken_after, ReadOff}
+use Rattle.passes.specs.Inner.Passes.{EndsAt, Takes, taken_after, Read}
 
 -- ---- one place
 pub empty_at : (ps : List ℕ) (k : ℕ) → get_or (empty_block ps) k 0 ≡ 0
@@ -89,25 +90,18 @@ ends_there : (r : Rule) (ps rest : List ℕ) (a : ℕ) (on : Bool) → rest ≡ 
 ends_there r ps rest zero on q some e k = absurd (omega arith)
 ends_there r ps rest (suc a) on q some e k = ap (λ (l : List ℕ). get_or l k 0) (q ∙ rw e) ∙ empty_at ps k
 
--- ---- the loop
-module _ (given : Kept) where
-  abbrev g : Scale
-  g = given.weights.scale
+-- a rule of prices and a scale rounds 0 to 0
+pub top_of_0 : (p : Prices) (g : Scale) → (rule_by p g).top 0 ≡ 0
+unfolding rule_by
+top_of_0 p g = nearest_of_0 g.shift (omega (arith, g.sound.low))
 
-  abbrev width : ℕ
-  width = given.scan.w
-
-  abbrev height : ℕ
-  height = given.scan.h
-
+-- ---- the loop, of one block
+module _ (r : Rule) (g : Scale) (width height : ℕ) (magnitudes : List ℕ) where
   abbrev kept : ℕ → ℕ
-  kept n = kept_at width height given.magnitudes.now n
-
-  abbrev r : Rule
-  r = rule_of given
+  kept n = kept_at width height magnitudes n
 
   abbrev ps : List ℕ
-  ps = places_of given
+  ps = kept_places g width height magnitudes
 
   abbrev ls : List ℕ
   ls = read_off r false ps
@@ -118,26 +112,28 @@ module _ (given : Kept) where
     pub standing : Filled width height n levels ls
     pub going : drop n ls ≡ read_off r (is_zero prev) (drop n ps)
 
-  pub begun : (levels : List ℕ) → Blank given levels → Reading levels 1 0
-  begun levels z =
-      record { room = z.room; standing = filled_none width height levels ls z.cleared; going = refl }
+  pub begun : (levels : List ℕ) → length levels ≡ width * height → Cleared levels → Reading levels 1 0
+  begun levels room z = record { room = room; standing = filled_none width height levels ls z; going = refl }
 
-  quiet_place : (k : ℕ) → k < width * height → kept k ≡ 0 → r.top (get_or ps k 0) ≡ 0
-  unfolding rule_by
-  quiet_place k h e =
-      ap (nearest g.shift) (place_at width height _ given.scan.scanned g _ k h) ∙ nothing_there g (kept k) e
+  module _ (held : List ℕ) (sc : Scanned width height held) (top : r.top 0 ≡ 0) (end : ℕ)
+      (ends : EndsAt width height magnitudes end) where
+    quiet_place : (k : ℕ) → k < width * height → kept k ≡ 0 → r.top (get_or ps k 0) ≡ 0
+    quiet_place k h e =
+        ap r.top
+        (place_at width height held sc g magnitudes k h ∙ ap (λ (a : ℕ). a * g.q) e
+        ∙ zero-mul g.q)
+        ∙ top
 
-  places_many : length ps ≡ width * height
-  places_many = places_count width height _ given.scan.scanned g given.magnitudes.now
+    places_many : length ps ≡ width * height
+    places_many = places_count width height held sc g magnitudes
 
-  module _ (end : ℕ) (ends : Ends given end) where
     -- from `end` on the block is 0
     tail : (k : ℕ) → end ≤ k → get_or ls k 0 ≡ 0
     tail k h =
         quiet_read r false ps k
         (λ l. let i : k < width * height = omega (arith, places_many) in quiet_place k i (ends.tail k h i))
 
-    pub read : (levels : List ℕ) (prev n : ℕ) → end ≤ n → Reading levels prev n → ReadOff given levels
+    pub read : (levels : List ℕ) (prev n : ℕ) → end ≤ n → Reading levels prev n → Read r width height ps levels
     read levels prev n le i =
         record {
           room = i.room;
@@ -145,7 +141,7 @@ module _ (given : Kept) where
         }
 
     module _ (levels : List ℕ) (prev n : ℕ) (i : Reading levels prev n) (lt : n < end) (t : Taken)
-        (takes : Takes given n t) (a : ℕ) (chose : a ≡ taken_after t prev) (after : List ℕ)
+        (takes : Takes r ps n (kept n) t) (a : ℕ) (chose : a ≡ taken_after t prev) (after : List ℕ)
         (puts : after ≡ set levels (scan_at width height n) a) where
       inside : n < width * height
       inside = omega (arith, ends.within)
@@ -178,7 +174,7 @@ module _ (given : Kept) where
       standing : Filled width height (n + 1) after ls
       standing =
           rw puts
-          (filled_next width height levels ls n inside _ given.scan.scanned i.room a place.0 i.standing)
+          (filled_next width height levels ls n inside held sc i.room a place.0 i.standing)
 
       pub goes_further : (1 ≤ a → t.goes_on ≡ true) → Reading after a (n + 1)
       goes_further on =
@@ -191,7 +187,7 @@ module _ (given : Kept) where
                 ∙ ap (λ (k : ℕ). read_off r (is_zero a) (drop k ps)) (sym (add-one n));
           }
 
-      pub stops : 1 ≤ a → t.goes_on ≡ false → ReadOff given after
+      pub stops : 1 ≤ a → t.goes_on ≡ false → Read r width height ps after
       stops some off =
           record {
             room = room;

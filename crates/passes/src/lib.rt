@@ -4,7 +4,6 @@
 #![tactic(auto)]
 
 ghost use Rattle.std.specs.Prelude.{◌≡◌, ◌*◌, ◌≤◌, length};
-ghost use Rattle.weights.specs.declared.kept.Kept.{Kept};
 ghost use Rattle.weights.specs.Inner.Places.{Cleared};
 ghost use Rattle.passes.specs.Inner.Passes.{Ends, Known, Decided, taken_after, ReadOff};
 
@@ -85,8 +84,7 @@ pub fn read_off(scan: Scan, end: usize, taken: &[Taken], levels: &mut [u16])
     requires rooms { (end ≤ scan.w * scan.h) × (length taken.now ≡ scan.w * scan.h)
         × (length levels.old ≡ scan.w * scan.h) }
     requires cleared { Cleared levels.old }
-    ensures { (kept : Kept) → kept.scan.w ≡ scan.entry.w → kept.scan.h ≡ scan.entry.h → Ends kept end
-        → Decided kept 0 end taken.now → ReadOff kept levels.new }
+    ensures { ReadOff scan.entry.w scan.entry.h end taken.now levels.new }
 {
     let mut prev: u16 = 1;
     for n in 0..end {

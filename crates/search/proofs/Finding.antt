@@ -21,7 +21,7 @@ use Rattle.weights.specs.Inner.Prices.{rule_by}
 use Rattle.weights.specs.Inner.Places.{Standing}
 use Rattle.weights.specs.Inner.Chosen.{rule_of, places_of, Blank, ChosenBy}
 use Rattle.ahead.specs.declared.Ahead.{Ahead}
-use Rattle.passes.specs.Inner.Passes.{Holds, Known, ReadOff}
+use Rattle.passes.specs.Inner.Passes.{Holds, Known, Read}
 use Rattle.passes.proofs.Reading.{empty_at}
 
 -- ---- two prices: x is the least one of a coded block but for its flag c, e that of the empty one, d what both have
@@ -81,7 +81,7 @@ module _ (k : Kept) (t : Ahead) (known : Known k 0 t) where
       omega (arith, v, within, known.rest)
 
   pub found_coded : coded < d + p.empty → (after : List ℕ)
-      → ReadOff k after
+      → Read r k.scan.w k.scan.h ps after
       → ChosenBy cheapest k after coded
   unfolding found found_price is_coded coded_price empty_price lesser rule_by
   found_coded l after s =

@@ -1,5 +1,5 @@
--- Each turn puts what its place takes, until one is the last.
-use mathlib.Core.Path.{◌≡◌, refl, ap, ◌∙◌}
+-- Each turn puts what its place takes, until one is the last: so of every block for which the places are so decided.
+use mathlib.Core.Path.{ap, ◌∙◌}
 use Prim.Native.Nat.{ℕ}
 use native.Mathlib.Omega.{arith}
 use Rattle.std.proofs.lemmas.Bool.{not-true, not-false}
@@ -10,32 +10,29 @@ use Rattle.passes.proofs.Reading.{begun, goes_further, stops, read}
 use Rattle.passes.proofs.read_off.Goals as goal
 use Rattle.passes.proofs.read_off.Goals.{else-not-here-via-else-not-here, else-not-here-via-then-not-here+else-a-ne0}
 
--- a place of the scan is the block's, as width and height are
-of_the_block : {w h x y : ℕ} (n : ℕ) → x ≡ w → y ≡ h → scan_at w h n ≡ scan_at x y n
-of_the_block n e f = rw (e, f) refl
-
 pub loop-n-init : goal.loop-n-init
-loop-n-init c k w h ends decided =
-    begun k _ (record { room = rw (w, h) c.requires.rooms.2; cleared = c.requires.cleared })
+loop-n-init c r g kept top ends decided = begun r g _ _ kept _ c.requires.rooms.2 c.requires.cleared
 
 pub returns-then-a-ne0 : goal.returns-then-a-ne0
-returns-then-a-ne0 c k w h ends decided =
+returns-then-a-ne0 c r g kept top ends decided =
     let n = c.loop-n.n in
     let scan = c.args.scan in
-    stops k c.args.end ends _ _ n (c.loop-n.invariant k w h ends decided) c.loop-n-test.true _
+    stops r g scan.w scan.h kept _ scan.scanned top c.args.end ends _ _ n (c.loop-n.invariant r g kept top ends decided)
+    c.loop-n-test.true _
     (decided n (omega arith) c.loop-n-test.true) _ c.after-a.ensures _
     (c.put.ensures ∙ ap (λ (p : ℕ). set c.loop-n.levels p c.after-a.result)
-    (c.block_place.ensures.0 ∙ ap (scan_at scan.w scan.h) c.scan_place.ensures.0 ∙ of_the_block n w h))
+    (c.block_place.ensures.0 ∙ ap (scan_at scan.w scan.h) c.scan_place.ensures.0))
     (some_kept _ c.if-a-ne0.true) (not-true _ c.if-not-here.true)
 
 pub loop-n-preserved : goal.loop-n-preserved
-loop-n-preserved c k w h ends decided =
+loop-n-preserved c r g kept top ends decided =
     let n = c.loop-n.n in
     let scan = c.args.scan in
-    goes_further k c.args.end ends _ _ n (c.loop-n.invariant k w h ends decided) c.loop-n-test.true _
+    goes_further r g scan.w scan.h kept _ scan.scanned top c.args.end ends _ _ n
+    (c.loop-n.invariant r g kept top ends decided) c.loop-n-test.true _
     (decided n (omega arith) c.loop-n-test.true) _ c.after-a.ensures _
     (c.put.ensures ∙ ap (λ (p : ℕ). set c.loop-n.levels p c.after-a.result)
-    (c.block_place.ensures.0 ∙ ap (scan_at scan.w scan.h) c.scan_place.ensures.0 ∙ of_the_block n w h))
+    (c.block_place.ensures.0 ∙ ap (scan_at scan.w scan.h) c.scan_place.ensures.0))
     (λ some.
     elim c.else-not-here.branch [
       | else-not-here-via-else-not-here u ↦ not-false _ u.if-not-here.false
@@ -43,5 +40,7 @@ loop-n-preserved c k w h ends decided =
     ])
 
 pub returns : goal.returns
-returns c k w h ends decided =
-    read k c.args.end ends _ _ c.loop-n.n (omega (arith, c.loop-n-test.false)) (c.loop-n.invariant k w h ends decided)
+returns c r g kept top ends decided =
+    let scan = c.args.scan in
+    read r g scan.w scan.h kept _ scan.scanned top c.args.end ends _ _ c.loop-n.n (omega (arith, c.loop-n-test.false))
+    (c.loop-n.invariant r g kept top ends decided)

@@ -1,14 +1,14 @@
 -- What the functions of the search say to one another: least prices as code holds them, what each place takes, and the
 -- block that is read off. The search itself is specs/Inner/Search.antt of `price`, one place of it `ahead`.
 use Rattle.std.specs.Prelude.{◌≡◌, true, false, cond, List, ℕ, suc, ◌+◌, ◌-◌, ◌*◌, ◌^◌, ◌≤◌, ◌<◌, length, get_or, drop}
-use Rattle.price.specs.Rule.{is_zero}
+use Rattle.price.specs.Rule.{Rule, is_zero}
 use Rattle.price.specs.Price.{uncoded}
 use Rattle.price.specs.Inner.Search.{Least, none, some, ahead, taken, goes_on, read_off}
 use Rattle.scaling.specs.declared.scale.Scale.{Scale}
 use Rattle.weights.specs.declared.prices.Prices.{Prices}
 use Rattle.weights.specs.declared.kept.Kept.{Kept}
 use Rattle.weights.specs.Inner.Prices.{rule_by}
-use Rattle.weights.specs.Inner.Places.{kept_at, Standing}
+use Rattle.weights.specs.Inner.Places.{kept_at, kept_places, Standing}
 use Rattle.weights.specs.Inner.Chosen.{rule_of, places_of}
 use Rattle.ahead.specs.declared.Ahead.{Ahead}
 use Rattle.ahead.specs.declared.Taken.{Taken}
@@ -32,19 +32,20 @@ from k n = drop n (places_of k)
 abbrev pub Known : Kept → ℕ → Ahead → Type 0
 Known k n t = Held k.weights.prices k.weights.scale (k.scan.w * k.scan.h - n) (from k n) t
 
--- nothing is kept from `end` on
-pub record Ends (k : Kept) (end : ℕ) : Type 0 where
-  pub within : end ≤ k.scan.w * k.scan.h
-  pub tail : (n : ℕ) → end ≤ n → n < k.scan.w * k.scan.h → kept_at k.scan.w k.scan.h k.magnitudes.now n ≡ 0
+-- nothing is kept from `end` on, of magnitudes that are kept by rows
+pub record EndsAt (w h : ℕ) (kept : List ℕ) (end : ℕ) : Type 0 where
+  pub within : end ≤ w * h
+  pub tail : (n : ℕ) → end ≤ n → n < w * h → kept_at w h kept n ≡ 0
 
--- what place n takes: the magnitude after a 0 and after a nonzero level, and whether a nonzero one goes on
-pub record Takes (k : Kept) (n : ℕ) (t : Taken) : Type 0 where
-  pub zero : t.after_zero
-      ≡ taken (rule_of k) true (get_or (places_of k) n 0) (from k (suc n)) (ahead (rule_of k) (from k (suc n)))
-  pub level : t.after_level
-      ≡ taken (rule_of k) false (get_or (places_of k) n 0) (from k (suc n)) (ahead (rule_of k) (from k (suc n)))
-  pub on : 1 ≤ kept_at k.scan.w k.scan.h k.magnitudes.now n
-      → t.goes_on ≡ goes_on (rule_of k) (from k (suc n)) (ahead (rule_of k) (from k (suc n)))
+abbrev pub Ends : Kept → (end : ℕ) → Type 0
+Ends k end = EndsAt k.scan.w k.scan.h k.magnitudes.now end
+
+-- what place n of ps takes by the rule r, where the magnitude a is kept: the one after a 0 and after a nonzero level,
+-- and whether a nonzero one goes on
+pub record Takes (r : Rule) (ps : List ℕ) (n a : ℕ) (t : Taken) : Type 0 where
+  pub zero : t.after_zero ≡ taken r true (get_or ps n 0) (drop (suc n) ps) (ahead r (drop (suc n) ps))
+  pub level : t.after_level ≡ taken r false (get_or ps n 0) (drop (suc n) ps) (ahead r (drop (suc n) ps))
+  pub on : 1 ≤ a → t.goes_on ≡ goes_on r (drop (suc n) ps) (ahead r (drop (suc n) ps))
 
 abbrev pub nothing : Taken
 nothing = record { after_zero = 0; after_level = 0; goes_on = false }
@@ -54,14 +55,26 @@ abbrev pub passed : Taken
 passed = record { after_zero = 0; after_level = 0; goes_on = true }
 
 -- each place from n to `end`
+abbrev pub DecidedBy : Rule → Scale → (w h : ℕ) → List ℕ → (n end : ℕ) → List Taken → Type 0
+DecidedBy r g w h kept n end all =
+    (j : ℕ) → n ≤ j → j < end → Takes r (kept_places g w h kept) j (kept_at w h kept j) (get_or all j nothing)
+
 abbrev pub Decided : Kept → (n end : ℕ) → List Taken → Type 0
-Decided k n end all = (j : ℕ) → n ≤ j → j < end → Takes k j (get_or all j nothing)
+Decided k n end all = DecidedBy (rule_of k) k.weights.scale k.scan.w k.scan.h k.magnitudes.now n end all
 
 -- ---- forth
 -- what a place takes after the level `prev`
 abbrev pub taken_after : Taken → ℕ → ℕ
 taken_after t prev = cond (is_zero prev) t.after_zero t.after_level
 
-pub record ReadOff (k : Kept) (after : List ℕ) : Type 0 where
-  pub room : length after ≡ k.scan.w * k.scan.h
-  pub levels : Standing k.scan.w k.scan.h after (read_off (rule_of k) false (places_of k))
+-- the search's levels of the places ps, by rows
+pub record Read (r : Rule) (w h : ℕ) (ps after : List ℕ) : Type 0 where
+  pub room : length after ≡ w * h
+  pub levels : Standing w h after (read_off r false ps)
+
+-- what is read off where that is taken: the levels of every block for which the places are so decided, by every rule
+-- that rounds 0 to 0
+abbrev pub ReadOff : (w h end : ℕ) → List Taken → List ℕ → Type 0
+ReadOff w h end all after =
+    (r : Rule) (g : Scale) (kept : List ℕ) → r.top 0 ≡ 0 → EndsAt w h kept end → DecidedBy r g w h kept 0 end all
+    → Read r w h (kept_places g w h kept) after
