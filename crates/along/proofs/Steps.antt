@@ -15,7 +15,7 @@ use Rattle.integers.proofs.Order.{below_or_not}
 use Rattle.scan.specs.Scan.{scan_at}
 use Rattle.price.specs.Level.{nearest, distortion}
 use Rattle.price.specs.Rule.{Rule, Allowed, is_zero}
-use Rattle.price.specs.Price.{uncoded}
+use Rattle.price.specs.Price.{uncoded, nonzeros}
 use Rattle.price.specs.Walk.{walked}
 use Rattle.price.specs.Inner.OnePass.{Totals, step, walk}
 use Rattle.price.proofs.Choice.{length_walked, walked_cheapest}
@@ -28,15 +28,14 @@ use Rattle.scaling.specs.declared.scale.Scale.{Scale}
 use Rattle.weights.specs.declared.prices.Prices.{Prices}
 use Rattle.weights.specs.declared.kept.Kept.{Kept}
 use Rattle.weights.specs.Inner.Prices.{rule_by, rate_by}
-use Rattle.weights.specs.Inner.Places.{kept_at, kept_from, Weighable}
-use Rattle.weights.specs.Inner.Chosen.{rule_of, places_of, Blank}
+use Rattle.weights.specs.Inner.Places.{kept_at, kept_from, kept_places, Weighable, Cleared}
 use Rattle.weights.proofs.Filling.{Filled, filled_none, filled_zero, filled_next, filled_all}
 use Rattle.weights.proofs.Places.{places_count, place_at, nothing_there, kept_in_all, kept_next, kept_inside, none_kept}
 use Rattle.weights.proofs.Places.{some_kept}
 use Rattle.step.specs.declared.Walk.{Walk}
 use Rattle.step.specs.Inner.Totals.{totals_of, passed, Ready}
 use Rattle.step.proofs.Weighing.{quiet}
-use Rattle.along.specs.Inner.Walking.{Begins, WalkedOver}
+use Rattle.along.specs.Inner.Walking.{BeginsAt, Begins, WalkedAlong}
 
 -- one place more
 walk_next : (r : Rule) (m : ℕ) (w : Totals) (ps : List ℕ) (i : ℕ) → i < length ps
@@ -57,36 +56,17 @@ uncoded_first : (r : Rule) (ps : List ℕ) (i : ℕ) → i < length ps → r.dis
 unfolding uncoded
 uncoded_first r ps i h = rw (drop-cons ps i 0 h) (omega arith)
 
-module _ (given : Kept) (w₀ : Walk) where
-  abbrev p : Prices
-  p = given.weights.prices
+-- a block's walk is one over magnitudes that are kept by rows
+pub of_block : (k : Kept) (first : Walk) → Begins k first
+    → BeginsAt k.weights.prices k.weights.scale first k.scan.w k.scan.h k.magnitudes.now
+of_block k first b = record { weighable = k.choosable.weighable; left = b.left; base = b.base }
 
-  abbrev g : Scale
-  g = given.weights.scale
-
-  abbrev width : ℕ
-  width = given.scan.w
-
-  abbrev height : ℕ
-  height = given.scan.h
-
-  abbrev kept : List ℕ
-  kept = given.magnitudes.now
-
-  abbrev held : List ℕ
-  held = given.scan.held.now
-
-  abbrev sc : Scanned width height held
-  sc = given.scan.scanned
-
-  abbrev ok : Weighable p g width height kept
-  ok = given.choosable.weighable
-
+module _ (p : Prices) (g : Scale) (w₀ : Walk) (width height : ℕ) (kept : List ℕ) where
   abbrev r : Rule
-  r = rule_of given
+  r = rule_by p g
 
   abbrev ps : List ℕ
-  ps = places_of given
+  ps = kept_places g width height kept
 
   abbrev ls : List ℕ
   ls = walked r (is_zero w₀.prev) ps
@@ -104,23 +84,26 @@ module _ (given : Kept) (w₀ : Walk) where
     pub tail : (k : ℕ) → end ≤ k → k < n → get_or ls k 0 ≡ 0
     pub rest : left ≡ kept_from width height kept n
 
-  next : (n : ℕ) → n < width * height → total (n + 1) ≡ step r n (total n) (kept_at width height kept n * g.q)
-  next n h =
-      ap (λ (k : ℕ). total k) (add-one n)
-      ∙ walk_next r 0 (totals_of w₀) ps n (omega (arith, places_count width height held sc g kept))
-      ∙ ap (λ (k : ℕ). step r k (total n) (get_or ps n 0)) (omega arith)
-      ∙ ap (step r n (total n)) (place_at width height held sc g kept n h)
+  module _ (held : List ℕ) (sc : Scanned width height held) (b : BeginsAt p g w₀ width height kept) where
+    abbrev ok : Weighable p g width height kept
+    ok = b.weighable
 
-  free : (z : Bool) → r.rate z 0 ≤ 2 ^ 48
-  unfolding rule_by rate_by
-  free true = p.modest.zeros
-  free false = p.modest.zero
+    next : (n : ℕ) → n < width * height → total (n + 1) ≡ step r n (total n) (kept_at width height kept n * g.q)
+    next n h =
+        ap (λ (k : ℕ). total k) (add-one n)
+        ∙ walk_next r 0 (totals_of w₀) ps n (omega (arith, places_count width height held sc g kept))
+        ∙ ap (λ (k : ℕ). step r k (total n) (get_or ps n 0)) (omega arith)
+        ∙ ap (step r n (total n)) (place_at width height held sc g kept n h)
 
-  more_small : r.more ≤ 2 ^ 48
-  unfolding rule_by
-  more_small = p.modest.more
+    free : (z : Bool) → r.rate z 0 ≤ 2 ^ 48
+    unfolding rule_by rate_by
+    free true = p.modest.zeros
+    free false = p.modest.zero
 
-  module _ (b : Begins given w₀) where
+    more_small : r.more ≤ 2 ^ 48
+    unfolding rule_by
+    more_small = p.modest.more
+
     pub bounded : (n : ℕ) → n ≤ width * height → (total n).base ≤ 2 ^ 62
     bounded n h =
         let x = (walk_within r (2 ^ 48) free 0 (totals_of w₀) ps n b.left).1 in
@@ -160,17 +143,18 @@ module _ (given : Kept) (w₀ : Walk) where
     level_small : (n : ℕ) → n < width * height → get_or ls n 0 ≤ 32767
     level_small n h = omega (arith, level_below n h, (ok.fine (scan_at width height n)).level)
 
-    pub begun : (levels : List ℕ) → Blank given levels → Walking levels w₀ 0 given.count 0
+    pub begun : (levels : List ℕ) (left : ℕ) → length levels ≡ width * height → Cleared levels → left ≡ nonzeros kept
+        → Walking levels w₀ 0 left 0
     unfolding walk
-    begun levels z =
+    begun levels left e z q =
         record {
           place = omega arith;
-          room = z.room;
+          room = e;
           same = refl;
-          standing = filled_none width height levels ls z.cleared;
+          standing = filled_none width height levels ls z;
           ended = omega arith;
           tail = λ k l h. absurd (not-suc-le-zero h);
-          rest = given.choosable.count ∙ kept_in_all width height kept held sc ok.room;
+          rest = q ∙ kept_in_all width height kept held sc ok.room;
         }
 
     -- while a place is left to step at, n lies inside the block
@@ -323,7 +307,7 @@ module _ (given : Kept) (w₀ : Walk) where
           × ((walk r 0 (totals_of w₀) ps).cut ≡ (total n).cut)
       stopped = rw (← walk_parts r 0 (totals_of w₀) ps n) (quiet_walk r (0 + n) (total n) (drop n ps) quiet_behind)
 
-      pub walked_over : WalkedOver given w₀ levels (record { walk = w; end = end })
+      pub walked_over : WalkedAlong p g w₀ width height kept levels (record { walk = w; end = end })
       walked_over =
           record {
             best = ap (λ (t : Totals). t.best) i.same ∙ sym stopped.0;
