@@ -3,13 +3,18 @@
 use mathlib.Core.Path.{◌≡◌, refl, sym, ap, ◌∙◌}
 use mathlib.Core.Bool.{Bool, true, false, cond}
 use mathlib.Core.Logic.{◌⊎◌, inl, inr}
+use mathlib.Core.List.{List}
 use Prim.Native.Nat.{ℕ, zero, suc, ◌+◌, ◌-◌, ◌*◌, ◌/◌, ◌≤◌, ◌<◌, ◌^◌}
 use native.Mathlib.Omega.{arith}
 use native.Mathlib.Nat.{mul-le-mul_left, mul-le-mul_right, mul-le-mul, mul-mul-mul_comm, suc-mul}
 use native.Mathlib.Numerals.{add-one}
 use lib.Dec.{leb}
 use borrow.Author.Tests.{leb-true, leb-false}
+use lib.ListN.{take, drop}
 use lib.IntN.{ℤ, nat_abs}
+use Rattle.integers.specs.Sum.{over, on_ℕ}
+use Rattle.integers.proofs.Sums.{nats}
+use Rattle.integers.proofs.Over.{over_part}
 use Rattle.price.specs.Level.{scaled, square}
 use Rattle.price.proofs.Level.{distortion_of_0}
 use Rattle.scaling.specs.declared.scale.Scale.{Scale}
@@ -78,6 +83,11 @@ pub zero_distortion_lem : (g : Scale) (z : ℤ) → zero_error g (nat_abs z) * z
 unfolding scaled
 zero_distortion_lem g z =
     ap square (sym (error_is g (nat_abs z))) ∙ sym (distortion_of_0 g.shift g.error (nat_abs z * g.q))
+
+-- a part, and what is behind it
+pub part_and_rest : (f : ℤ → ℕ) (block : List ℤ) (i e : ℕ) → i ≤ e
+    → over on_ℕ f (take (e - i) (drop i block)) + over on_ℕ f (drop e block) ≡ over on_ℕ f (drop i block)
+part_and_rest f block i e h = sym (over_part nats f block i e h)
 
 -- ---- the sum held: what is added up, with what is left, is the whole sum, or both are past the limit
 abbrev pub Adding : ℕ → ℕ → ℕ → Type 0

@@ -113,8 +113,8 @@ module _ (given : Kept) (end : ℕ) (ends : Ends given end) where
 
     decides : (a : Taken) → Takes r ps n (kept n) a → Decided given n end (set all n a)
     decides a here =
-        put n (λ (j : ℕ) (b : Taken). j < end → Takes r ps j (kept j) b) all a (omega (arith, inside_n, i.room)) (λ l. here)
-        i.decided
+        put n (λ (j : ℕ) (b : Taken). j < end → Takes r ps j (kept j) b) all a (omega (arith, inside_n, i.room))
+        (λ l. here) i.decided
 
     pub passes : kept n ≡ 0 → Looking given end (set all n passed) (passed_by p t) n
     passes e =

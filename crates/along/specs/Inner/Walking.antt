@@ -26,7 +26,8 @@ pub record Begins (k : Kept) (first : Walk) : Type 0 where
   pub base : first.base ≤ 2 ^ 61
 
 -- the walk from `first`: its best price and its cut, and its magnitudes, all of which are 0 from `end` on
-pub record WalkedAlong (p : Prices) (g : Scale) (first : Walk) (w h : ℕ) (kept after : List ℕ) (r : Walked) : Type 0 where
+pub record WalkedAlong (p : Prices) (g : Scale) (first : Walk) (w h : ℕ) (kept after : List ℕ)
+    (r : Walked) : Type 0 where
   pub best : r.walk.best ≡ (walk (rule_by p g) 0 (totals_of first) (kept_places g w h kept)).best
   pub cut : r.walk.cut ≡ (walk (rule_by p g) 0 (totals_of first) (kept_places g w h kept)).cut
   pub room : length after ≡ w * h

@@ -22,5 +22,5 @@ returns c =
       | then-goes_on w ↦ w.behind-is ∙ sym (let k = lt-ltb _ _ w.if-goes_on.true in rw k)
       | else-goes_on w ↦ w.behind-is ∙ sym (let k = le-ltb _ _ w.if-goes_on.false in rw k)
     ] in
-    weighed _ _ _ _ c.requires.fine _ c.offer-offer.ensures _ _ c.squared_below-d.ensures.is behind _ _ c.choose-z.ensures
-    c.choose-n.ensures _ refl
+    weighed _ _ _ _ c.requires.fine _ c.offer-offer.ensures _ _ c.squared_below-d.ensures.is behind _ _
+    c.choose-z.ensures c.choose-n.ensures _ refl
