@@ -17,7 +17,7 @@ use Rattle.tables.specs.Inner.OddRows.{odd_rows_of, odd_rows}
 use Rattle.tables.proofs.Symmetry.{matrix_symmetric}
 use Rattle.tables.proofs.RowSums.{matrix_light}
 use Rattle.tables.proofs.OddRows.{odd_rows_are}
-use Rattle.butterfly.specs.Inner.Lines.{line_at, Folded, gained, spent, Halved, Room}
+use Rattle.butterfly.specs.Inner.Lines.{line_at, Folded, gained, spent, Halved, Row, Room}
 use Rattle.butterfly.proofs.Room.{sums_room}
 use Rattle.butterfly.proofs.Level as level
 
@@ -87,6 +87,17 @@ module _ {l h : ℕ} {x e o t d : List ℤ} (k : Taken l h x e o t d) where
         → Halved matrix l x e old (put_mid h (h + h - h) old b)
     halved old lb wide =
         record {
+          differences = o;
+          half = b;
+          long = (k.sums ∙ k.side, lb ∙ k.side);
+          folded = k.folded;
+          put =
+              record {
+                holds = λ i g.
+                    subst (λ (m : ℕ). at (put_mid h (h + h - h) old b) (m + i) ≡ at b i) (sym lb)
+                    (holds h old b wide lb i (omega (arith, lb)));
+                kept = λ p g. kept h old b wide lb p (omega (arith, lb));
+              };
           evens =
               level.even_coefficient matrix l (matrix_symmetric l k.few) x long_line e o (k.sums ∙ k.side) k.folded;
           odds = λ i g.
@@ -95,3 +106,14 @@ module _ {l h : ℕ} {x e o t d : List ℤ} (k : Taken l h x e o t d) where
           kept = λ p g. kept h old b wide lb p (omega (arith, k.side));
           room = sums_room l x long_line k.room e o (k.sums ∙ k.side) k.folded;
         }
+
+-- ---- the row of the sums in front of what one level left is the row of x
+pub row_held : (l : ℕ) → l < most_log2 → (x e old mid new : List ℤ) → length x ≡ 2 ^ l + 2 ^ l
+    → Halved matrix l x e old mid → Row matrix l e mid new → Row matrix (suc l) x old new
+row_held l few x e old mid new long h =
+    level.row_joins matrix l (matrix_symmetric l few) x long e h.differences h.long.0 h.folded h.half old mid new
+    h.long.1
+    (λ k g.
+    sym (subst (λ (m : ℕ). at mid (m + k) ≡ at h.half k) h.long.1 (h.put.holds k (omega (arith, h.long.1))))
+    ∙ h.odds k g)
+    h.put

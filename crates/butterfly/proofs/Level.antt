@@ -18,8 +18,37 @@ use Rattle.tables.specs.Matrix.{Matrices}
 use Rattle.tables.specs.Inner.Symmetry.{Symmetric, Light}
 use Rattle.tables.specs.Inner.OddRows.{odd_rows_of}
 use Rattle.tables.proofs.OddRows.{odd_row_at, odd_rows_length}
-use Rattle.butterfly.specs.Inner.Lines.{line_at, Folded, gained, spent, place, Halved, Row, Room}
+use Rattle.butterfly.specs.Inner.Lines.{line_at, Folded, gained, spent, place, Behind, Row, Room}
 use Rattle.butterfly.proofs.Room.{differences_within}
+
+-- a row of even coefficients in front of the odd ones is the row of both: old is what stood there, and mid what is
+-- there once the odd ones are
+module _ (M : Matrices) (l : ℕ) (x e old mid new : List ℤ)
+    (evens : (k : ℕ) → k < 2 ^ l → line_at M (2 ^ l) e k ≡ line_at M (2 ^ l + 2 ^ l) x (2 * k))
+    (odds : (k : ℕ) → k < 2 ^ l → at mid (2 ^ l + k) ≡ line_at M (2 ^ l + 2 ^ l) x (2 * k + 1))
+    (kept : (p : ℕ) → 2 ^ l + 2 ^ l ≤ p → at mid p ≡ at old p) (row : Row M l e mid new) where
+  by_parity : (k r : ℕ) → k % 2 ≡ r → k < 2 ^ l + 2 ^ l → at new (place (suc l) k) ≡ line_at M (2 ^ l + 2 ^ l) x k
+  unfolding place
+  by_parity k zero q hk =
+      ap (λ (m : ℕ). at new (cond (eqb m 0) (place l (k / 2)) (2 ^ l + k / 2))) q
+      ∙ row.holds (k / 2) (omega arith)
+      ∙ evens (k / 2) (omega arith)
+      ∙ ap (λ (m : ℕ). line_at M (2 ^ l + 2 ^ l) x m) (omega arith)
+  by_parity k (suc zero) q hk =
+      ap (λ (m : ℕ). at new (cond (eqb m 0) (place l (k / 2)) (2 ^ l + k / 2))) q
+      ∙ row.kept (2 ^ l + k / 2) (omega arith)
+      ∙ odds (k / 2) (omega arith)
+      ∙ ap (λ (m : ℕ). line_at M (2 ^ l + 2 ^ l) x m) (omega arith)
+  by_parity k (suc (suc r)) q hk = absurd (let no : ⊥ = omega arith in no)
+
+  pub parity_joins : Row M (suc l) x old new
+  parity_joins =
+      record {
+        holds = λ k hk.
+            subst (λ (N : ℕ). at new (place (suc l) k) ≡ line_at M N x k) (sym (two-pow-succ l))
+            (by_parity k (k % 2) refl (omega (arith, two-pow-succ l)));
+        kept = λ p hp. row.kept p (omega (arith, two-pow-succ l)) ∙ kept p (omega (arith, two-pow-succ l));
+      }
 
 module _ (M : Matrices) (l : ℕ) (mirrored : Symmetric M (2 ^ l)) (x : List ℤ) (lx : length x ≡ 2 ^ l + 2 ^ l)
     (e o : List ℤ) (le : length e ≡ 2 ^ l) (f : Folded x e o) where
@@ -81,27 +110,14 @@ module _ (M : Matrices) (l : ℕ) (mirrored : Symmetric M (2 ^ l)) (x : List ℤ
         subst (λ (m : ℕ). sum_ℕ m (λ n. nat_abs (at t (n * m + k)) * nat_abs (at o n)) < 2 ^ 31) (sym lo)
         (omega (arith, r.room))
 
--- the row of the sums goes in front of the odd coefficients
-module _ (M : Matrices) (l : ℕ) (x e old mid new : List ℤ) (h : Halved M l x e old mid) (row : Row M l e mid new) where
-  by_parity : (k r : ℕ) → k % 2 ≡ r → k < 2 ^ l + 2 ^ l → at new (place (suc l) k) ≡ line_at M (2 ^ l + 2 ^ l) x k
-  unfolding place
-  by_parity k zero q hk =
-      ap (λ (m : ℕ). at new (cond (eqb m 0) (place l (k / 2)) (2 ^ l + k / 2))) q
-      ∙ row.holds (k / 2) (omega arith)
-      ∙ h.evens (k / 2) (omega arith)
-      ∙ ap (λ (m : ℕ). line_at M (2 ^ l + 2 ^ l) x m) (omega arith)
-  by_parity k (suc zero) q hk =
-      ap (λ (m : ℕ). at new (cond (eqb m 0) (place l (k / 2)) (2 ^ l + k / 2))) q
-      ∙ row.kept (2 ^ l + k / 2) (omega arith)
-      ∙ h.odds (k / 2) (omega arith)
-      ∙ ap (λ (m : ℕ). line_at M (2 ^ l + 2 ^ l) x m) (omega arith)
-  by_parity k (suc (suc r)) q hk = absurd (let no : ⊥ = omega arith in no)
-
-  pub row_joins : Row M (suc l) x old new
-  row_joins =
-      record {
-        holds = λ k hk.
-            subst (λ (N : ℕ). at new (place (suc l) k) ≡ line_at M N x k) (sym (two-pow-succ l))
-            (by_parity k (k % 2) refl (omega (arith, two-pow-succ l)));
-        kept = λ p hp. row.kept p (omega (arith, two-pow-succ l)) ∙ h.kept p (omega (arith, two-pow-succ l));
-      }
+  -- `old` with the odd half b put into it is `mid`; the row of the sums in front of that is `new`
+  module _ (b old mid new : List ℤ) (lb : length b ≡ 2 ^ l)
+      (odds : (k : ℕ) → k < 2 ^ l → at b k ≡ line_at M (2 ^ l + 2 ^ l) x (2 * k + 1)) (put : Behind b old mid)
+      (row : Row M l e mid new) where
+    pub row_joins : Row M (suc l) x old new
+    row_joins =
+        parity_joins M l x e old mid new even_coefficient
+        (λ k hk.
+        subst (λ (m : ℕ). at mid (m + k) ≡ at b k) lb (put.holds k (omega (arith, lb)))
+        ∙ odds k hk)
+        (λ p hp. put.kept p (omega (arith, lb))) row

@@ -1,8 +1,8 @@
 -- `butterfly::line32` meets its contract: one level over the row of half the side.
-use Rattle.tables.specs.Matrix.{matrix}
-use Rattle.butterfly.proofs.Level.{row_joins}
+use native.Mathlib.Omega.{arith}
+use Rattle.butterfly.proofs.HalfLine.{row_held}
 use Rattle.butterfly.proofs.line32.Goals as goal
 
 pub returns : goal.returns
 returns c =
-    row_joins matrix 4 c.args.x.now _ c.args.row.now _ _ c.one_level-e.ensures c.line16.ensures
+    row_held 4 (omega arith) c.args.x.now _ c.args.row.now _ _ c.requires.0 c.one_level-e.ensures c.line16.ensures

@@ -36,6 +36,11 @@ unfoldable pub place : (l k : ℕ) → ℕ
 place zero k = 0
 place (suc l) k = cond (eqb (k % 2) 0) (place l (k / 2)) (2 ^ l + k / 2)
 
+-- b behind as many places as it has itself
+pub record Behind (b old new : List ℤ) : Type 0 where
+  pub holds : (k : ℕ) → k < length b → at new (length b + k) ≡ at b k
+  pub kept : (p : ℕ) → length b + length b ≤ p → at new p ≡ at old p
+
 -- the row of x in front of what was there
 pub record Row (M : Matrices) (l : ℕ) (x old new : List ℤ) : Type 0 where
   pub holds : (k : ℕ) → k < 2 ^ l → at new (place l k) ≡ line_at M (2 ^ l) x k
@@ -47,9 +52,14 @@ pub record Room (l : ℕ) (x : List ℤ) : Type 0 where
   pub each : (i : ℕ) → i < length x → nat_abs (at x i) ≤ most
   pub room : most * 2 ^ l ≤ 33521664
 
--- one level of a line x of side 2^(l+1): its odd coefficients stand behind 2^l places of the row, and the coefficients
--- of e, which has room in half the side, are the even ones
+-- one level of a line x of side 2^(l+1): e holds its sums and has room in half the side, its odd coefficients are a
+-- list of their own that stands behind 2^l places of the row, and the coefficients of e are the even ones
 pub record Halved (M : Matrices) (l : ℕ) (x e old new : List ℤ) : Type 0 where
+  pub differences : List ℤ
+  pub half : List ℤ
+  pub long : (length e ≡ 2 ^ l) × (length half ≡ 2 ^ l)
+  pub folded : Folded x e differences
+  pub put : Behind half old new
   pub evens : (k : ℕ) → k < 2 ^ l → line_at M (2 ^ l) e k ≡ line_at M (2 ^ l + 2 ^ l) x (2 * k)
   pub odds : (k : ℕ) → k < 2 ^ l → at new (2 ^ l + k) ≡ line_at M (2 ^ l + 2 ^ l) x (2 * k + 1)
   pub kept : (p : ℕ) → 2 ^ l + 2 ^ l ≤ p → at new p ≡ at old p
