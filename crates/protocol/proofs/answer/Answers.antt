@@ -1,5 +1,4 @@
 -- A line that is too long is no request.
-use Rattle.std.proofs.Common.{refl}
 use Rattle.protocol.proofs.Retold.{malformed_told, long_told}
 use Rattle.protocol.proofs.answer.Goals as goal
 
