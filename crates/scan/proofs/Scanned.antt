@@ -25,16 +25,20 @@ module _ (l : ℕ) (hi : l ≤ most_log2) where
         few = omega (arith, area_is, pow-le-pow_right {n = 4} (omega arith) hi);
       })
 
+-- what is looked up, in any held scan of a block no larger than the largest
+pub place_in : (w h : ℕ) (held : List ℕ) → held ≡ scan w h → 1 ≤ w → 1 ≤ h → w * h ≤ most_places → (p : ℕ)
+    → p < length held → (get_or held p 0 ≡ scan_at w h p) × (get_or held p 0 < w * h) × (get_or held p 0 < most_places)
+unfolding scan_at
+place_in w h held e wide high few p lt =
+    let is : get_or held p 0 ≡ scan_at w h p = ap (λ (l : List ℕ). get_or l p 0) e in
+    let within : p < length (scan w h) = omega (arith, lt, ap length e) in
+    let inside = scan_inside w h wide high p within in
+    (is, omega (arith, is, inside), omega (arith, is, inside, few))
+
 module _ (w h : ℕ) (held : List ℕ) (s : Scanned w h held) where
   pub held_length : length held ≡ w * h
   held_length = ap length s.is ∙ s.full
 
-  -- what is looked up
   pub held_at : (p : ℕ) → p < w * h
       → (get_or held p 0 ≡ scan_at w h p) × (get_or held p 0 < w * h) × (get_or held p 0 < most_places)
-  unfolding scan_at
-  held_at p lt =
-      let is : get_or held p 0 ≡ scan_at w h p = ap (λ (l : List ℕ). get_or l p 0) s.is in
-      let within : p < length (scan w h) = omega (arith, s.full) in
-      let inside = scan_inside w h s.wide s.high p within in
-      (is, omega (arith, is, inside), omega (arith, is, inside, s.few))
+  held_at p lt = place_in w h held s.is s.wide s.high s.few p (omega (arith, held_length, lt))

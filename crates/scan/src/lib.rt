@@ -4,8 +4,9 @@
 
 mod scans;
 
-ghost use Rattle.std.specs.Prelude.{◌≡◌, ◌<◌, ◌*◌, ◌^◌, length, get_or, set};
-ghost use Rattle.scan.specs.Scan.{most_places, scan_at, square_scan};
+ghost use Rattle.std.specs.Prelude.{◌≡◌, ◌<◌, ◌≤◌, ◌*◌, ◌^◌, length, get_or, set};
+ghost use Rattle.refusals.specs.Sides.{most_log2};
+ghost use Rattle.scan.specs.Scan.{most_places, scan, scan_at, square_scan};
 ghost use Rattle.scan.specs.Scanned.{Scanned};
 
 use crate::scans::SCANS;
@@ -41,14 +42,30 @@ fn listed(side: Side) -> &'static [u16]
     }
 }
 
+// The scan of a square block, written into the list that is lent. Of the table a call writes out the list of its side
+// alone.
+pub fn fill_scan(log2: usize, held: &mut [u16])
+    requires { (1 ≤ log2) × (log2 ≤ most_log2) × (length held.old ≡ 4 ^ log2) }
+    ensures { held.new ≡ square_scan log2 }
+{
+    held.copy_from_slice(listed(Side { log2 }));
+}
+
+// The lookup in the held scan of a block w wide and h high, by whoever holds it.
+pub fn block_place(held: &[u16], w: usize, h: usize, p: ScanPlace) -> BlockPlace
+    requires { (held.now ≡ scan w h) × (p.0 < length held.now) × (1 ≤ w) × (1 ≤ h) × (w * h ≤ most_places) }
+    ensures { (result.0 ≡ scan_at w h p.0) × (result.0 < w * h) × (result.0 < most_places) }
+{
+    BlockPlace(held[p.0] as usize)
+}
+
 impl<'a> Scan<'a> {
-    // Of a square block, written into the room: taken once a call. Of the table a call writes out the list of its side
-    // alone.
+    // Of a square block, written into the room: taken once a call.
     pub fn square(side: Side, room: &'a mut [u16]) -> Scan<'a>
         requires { length room.old ≡ 4 ^ side.log2 }
         ensures { (result.w ≡ 2 ^ side.log2) × (result.h ≡ 2 ^ side.log2) }
     {
-        room.copy_from_slice(listed(side));
+        fill_scan(side.log2, room);
         let a = side.length();
         Scan {
             held: room,
@@ -71,7 +88,7 @@ impl<'a> Scan<'a> {
         ensures { (result.0 ≡ scan_at self.entry.w self.entry.h p.0) × (result.0 < self.entry.w * self.entry.h)
             × (result.0 < most_places) }
     {
-        BlockPlace(self.held[p.0] as usize)
+        block_place(self.held, self.w, self.h, p)
     }
 }
 

@@ -1,12 +1,10 @@
 -- A line that is too long is no request.
-use Rattle.std.proofs.Common.{refl}
-use Rattle.requests.proofs.Asked.{too_long}
-use Rattle.protocol.proofs.Retold.{malformed_told}
+use Rattle.protocol.proofs.Retold.{malformed_told, long_told}
 use Rattle.protocol.proofs.answer.Goals as goal
 
 pub returns-then-line-gt-LONGEST : goal.returns-then-line-gt-LONGEST
 returns-then-line-gt-LONGEST c =
-    malformed_told _ _ _ _ _ (too_long _ c.if-line-gt-LONGEST.true) refl c.put_malformed.ensures
+    long_told _ _ _ _ c.if-line-gt-LONGEST.true c.put_malformed.ensures
 
 pub returns-in-None : goal.returns-in-None
 returns-in-None c =

@@ -1,6 +1,9 @@
--- What is held is the scan, whose entries lie inside the block, and that is no larger than the largest.
-use Rattle.scan.proofs.Scanned.{held_at}
+-- What is held is a whole scan, so that a place below its length is one of what is held.
+use Rattle.std.proofs.Common.{arith}
+use Rattle.scan.proofs.Scanned.{held_length}
 use Rattle.scan.proofs.Scan.block_place.Goals as goal
 
-pub returns : goal.returns
-returns c = held_at _ _ _ c.args.self.scanned c.args.p.0 c.requires
+pub block_place-requires : goal.block_place-requires
+block_place-requires c =
+    let s = c.args.self.scanned in
+    (s.is, omega (arith, held_length _ _ _ s, c.requires), s.wide, s.high, s.few)
