@@ -75,6 +75,11 @@ Handed before c after (More rest) = Asked before c after rest
 abbrev pub grown : Cursor → ℕ → Cursor
 grown c n = record { from = c.from; have = c.have + n; passing = c.passing }
 
+-- what the answer of a read means: it has failed, or n bytes came; without a byte the input has ended
+abbrev pub arrival_of : Result ℕ Error → Cursor → Result (Option Cursor) Error
+arrival_of (Err e) c = Err e
+arrival_of (Ok n) c = cond (eqb n 0) (Ok None) (Ok (Some (grown c n)))
+
 -- a read changes nothing of what stands before the bytes that it brings
 abbrev pub Kept : List ℕ → Cursor → List ℕ → Type 0
 Kept before c after = take c.have after ≡ take c.have before

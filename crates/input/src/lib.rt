@@ -4,7 +4,8 @@
 // and a failure apart.
 #![tactic(auto)]
 
-ghost use Rattle.std.specs.Prelude.{◌≡◌, false, ◌≤◌, ◌<◌, ◌==◌, length, position};
+ghost use Rattle.std.specs.Prelude.{◌≡◌, false, ◌+◌, ◌≤◌, ◌<◌, ◌==◌, length, position, IfOk};
+ghost use Rattle.input.specs.Lines.{arrival_of};
 
 use std::io;
 use std::io::Read;
@@ -45,6 +46,21 @@ fn newline_in(bytes: &[u8]) -> Option<usize>
     ensures { result ≡ position (λ b. b == 10) bytes.now }
 {
     bytes.iter().position(|byte| *byte == b'\n')
+}
+
+// What a read's answer means. Without a byte more the input has ended.
+fn meant(got: io::Result<usize>, c: Cursor) -> io::Result<Option<Cursor>>
+    requires { IfOk got (λ n. c.have + n ≤ 18446744073709551615) }
+    ensures { result ≡ arrival_of got c }
+{
+    let bytes = got?;
+    if bytes == 0 {
+        return Ok(None);
+    }
+    Ok(Some(Cursor {
+        have: c.have + bytes,
+        ..c
+    }))
 }
 
 impl Cursor {
@@ -100,20 +116,13 @@ impl Cursor {
         })
     }
 
-    // Reads once, behind what is left. Without a byte more the input has ended.
+    // Reads once, behind what is left.
     pub fn read<R: Read>(self, reader: &mut R, buf: &mut [u8]) -> io::Result<Option<Self>>
         requires { Within self buf.old × (self.have < length buf.old) }
         ensures brought { Brought buf.old self buf.new result }
         ensures given { Gave (R.remaining reader.old) (R.remaining reader.new) self buf.new result }
     {
-        let bytes = reader.read(&mut buf[self.have..])?;
-        if bytes == 0 {
-            return Ok(None);
-        }
-        Ok(Some(Cursor {
-            have: self.have + bytes,
-            ..self
-        }))
+        meant(reader.read(&mut buf[self.have..]), self)
     }
 
     // What is left where the input has ended: a last line may lack its newline.
