@@ -33,15 +33,18 @@ fn read_all<R: Read>(reader: &mut R, buf: &mut [u8]) -> io::Result<usize>
 pub fn read_picture<R: Read>(
     reader: &mut R,
     bytes: &mut [u8],
-    camera: &mut [u16; 65536],
-) -> Result<Picture, Wrong> {
+    camera: &mut [u16],
+) -> Result<Picture, Wrong>
+    requires { 65536 ≤ length camera.old }
+{
     let n = read_all(reader, bytes)?;
     if n == bytes.len() {
         return Err(Wrong::TooLong);
     }
     let bytes = &bytes[..n];
     let header = read_header(bytes)?;
-    take_samples(bytes, header, camera)?;
+    let n = header.size.area();
+    take_samples(bytes, header.at, header.form, header.most, n, camera)?;
     Ok(Picture {
         size: header.size,
         most: header.most,

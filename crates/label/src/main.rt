@@ -5,7 +5,7 @@
 // that no sample may be off by more than. What is wrong is said on standard error, and nothing further is shown then.
 #![tactic(auto)]
 
-ghost use Rattle.std.specs.Prelude.{IfOk};
+ghost use Rattle.std.specs.Prelude.{◌≤◌, length, IfOk};
 ghost use Rattle.fates.specs.Fate.{Most};
 
 mod stopped;
@@ -17,7 +17,7 @@ use fates::Tally;
 use guarded::guarded_sub_block;
 use guarding::Guarded;
 use heights::Heights;
-use lines::{put_block, put_head, put_made, put_shown, put_sum};
+use lines::{Head, put_block, put_head, put_made, put_shown, put_sum};
 use page::{Levels, Samples};
 use picture::{Block, Pictures, Size, by_rows};
 use price::Settings;
@@ -100,11 +100,7 @@ fn make(residuals: [i16; 96], block: Block, asked: Asked) -> Result<Made, Unmade
     let mut residuals = levels;
     decode(&mut residuals, asked.qp).map_err(|_| Unmade::Viewer)?;
     Ok(Made {
-        levels: Levels {
-            coefficients,
-            levels,
-            qp: Qp { qp: asked.qp },
-        },
+        levels: Levels::of(coefficients, levels, Qp { qp: asked.qp }),
         coded,
         residuals,
     })
@@ -113,11 +109,12 @@ fn make(residuals: [i16; 96], block: Block, asked: Asked) -> Result<Made, Unmade
 // A block as the camera saw it, coded, kept as it is shown, and put on the page; and what became of its levels.
 fn show_block<W: Print>(
     out: &W,
-    camera: &[u16; 65536],
-    kept: &mut [u16; 65536],
+    camera: &[u16],
+    kept: &mut [u16],
     block: Block,
     asked: Asked,
 ) -> Result<Tally, Stopped>
+    requires { (65536 ≤ length camera.now) × (65536 ≤ length kept.old) }
     ensures { IfOk result (λ tally. Most 64 tally) }
 {
     let seen = block.take(camera);
@@ -129,19 +126,22 @@ fn show_block<W: Print>(
         seen: &seen,
         view: &view,
     };
-    put_block(out, block, samples, apart)?;
-    put_made(out, &made.levels, made.coded)?;
-    Ok(made.levels.tally())
+    put_block(out, block.number, samples, apart)?;
+    let tally = made.levels.tally();
+    put_made(out, &made.levels, tally, made.coded)?;
+    Ok(tally)
 }
 
 // Every block, one behind the other, and what became of all levels.
 fn show_blocks<W: Print>(
     out: &W,
-    camera: &[u16; 65536],
-    kept: &mut [u16; 65536],
+    camera: &[u16],
+    kept: &mut [u16],
     size: Size,
     asked: Asked,
-) -> Result<(), Stopped> {
+) -> Result<(), Stopped>
+    requires { (65536 ≤ length camera.now) × (65536 ≤ length kept.old) }
+{
     let mut tally = Tally::default();
     for number in 0..size.across() * size.down() {
         let block = Block { size, number };
@@ -160,7 +160,7 @@ fn show_picture<W: Print>(
     let size = picture.size;
     let mut kept = [0u16; 65536];
     let mut shown = [0u16; 65536];
-    put_head(out, picture, asked)?;
+    put_head(out, Head::of(picture, asked))?;
     show_blocks(out, camera, &mut kept, size, asked)?;
     by_rows(&kept, size, &mut shown);
     let pictures = Pictures {
@@ -168,7 +168,7 @@ fn show_picture<W: Print>(
         camera,
         shown: &shown,
     };
-    put_shown(out, pictures, asked)?;
+    put_shown(out, pictures, asked.height)?;
     Ok(())
 }
 

@@ -3,7 +3,7 @@
 // function says whether all was written, or why not.
 #![tactic(auto)]
 
-ghost use Rattle.std.specs.Prelude.{◌<◌};
+ghost use Rattle.std.specs.Prelude.{◌≡◌, ◌<◌};
 
 mod amounts;
 
@@ -11,34 +11,68 @@ use amounts::{Millionths, Place, Price};
 use asked::{Asked, Picture};
 use fates::Tally;
 use guarding::Guarded;
-use page::{Greys, Levels, Pgm, Samples};
-use picture::{Block, Pictures, Size};
+use page::{Greys, Pgm, Samples};
+use picture::Pictures;
 use shown::{Worst, darkest, farthest};
+use std::fmt::Display;
 use std::io;
 use std::io::Print;
 
 // ---- the head
-fn put_asked<W: Print>(out: &W, size: Size, asked: Asked) -> io::Result<()> {
-    let Size { width, height, .. } = size;
-    let qp = asked.qp;
-    let lambda = Millionths(asked.millionths);
+// What it tells: the picture's sides and maxval, and the QP, lambda in millionths and the height that were asked.
+#[derive(Clone, Copy)]
+pub struct Head {
+    pub width: usize,
+    pub height: usize,
+    pub most: u32,
+    pub qp: u32,
+    pub millionths: u64,
+    pub limit: Option<u32>,
+}
+
+impl Head {
+    pub fn of(picture: Picture, asked: Asked) -> Head
+        ensures picture { (result.width ≡ picture.size.width) × (result.height ≡ picture.size.height)
+            × (result.most ≡ picture.most) }
+        ensures asked { (result.qp ≡ asked.qp) × (result.millionths ≡ asked.millionths)
+            × (result.limit ≡ asked.height) }
+    {
+        Head {
+            width: picture.size.width,
+            height: picture.size.height,
+            most: picture.most,
+            qp: asked.qp,
+            millionths: asked.millionths,
+            limit: asked.height,
+        }
+    }
+}
+
+fn put_asked<W: Print>(out: &W, head: Head) -> io::Result<()> {
+    let Head {
+        width,
+        height,
+        qp,
+        ..
+    } = head;
+    let lambda = Millionths(head.millionths);
     print!(out;
         "A picture of {width} by {height} in blocks of 8 by 8, coded at QP {qp}, lambda {lambda}"
     )?;
-    if let Some(height) = asked.height {
-        print!(out; ", height {height}")?;
+    if let Some(limit) = head.limit {
+        print!(out; ", height {limit}")?;
     }
     println!(out; ", and shown as the viewer shows it.")
 }
 
 // What was asked of a picture, and what the page has.
-pub fn put_head<W: Print>(out: &W, picture: Picture, asked: Asked) -> io::Result<()> {
-    let most = picture.most;
-    put_asked(out, picture.size, asked)?;
+pub fn put_head<W: Print>(out: &W, head: Head) -> io::Result<()> {
+    let most = head.most;
+    put_asked(out, head)?;
     println!(out;
         "QP is the slice's plus 12; lambda is what a bit may cost, in squared error of samples of 8 bits."
     )?;
-    if asked.height.is_some() {
+    if head.limit.is_some() {
         println!(out;
             "Height is how much darker and how much lighter than the camera saw it a sample may be shown."
         )?;
@@ -56,14 +90,16 @@ A price is squared error plus lambda times bits; in brackets as the call reports
 }
 
 // ---- a block
-// A block as the camera saw it and as it is shown, and their largest difference.
+// A block, counted from 0, as the camera saw it and as it is shown, and their largest difference.
 pub fn put_block<W: Print>(
     out: &W,
-    block: Block,
+    block: usize,
     samples: Samples<'_>,
     apart: u16,
-) -> io::Result<()> {
-    let number = block.number + 1;
+) -> io::Result<()>
+    requires { block < 1024 }
+{
+    let number = block + 1;
     print!(out;
         "
 block {number}: camera                               shown
@@ -73,14 +109,18 @@ block {number}: camera                               shown
 }
 
 // What was made of a block: how far it is off, its levels, their fates, how many they are, and their price.
-pub fn put_made<W: Print>(out: &W, levels: &Levels, coded: Guarded) -> io::Result<()> {
+pub fn put_made<W: Print, L: Display>(
+    out: &W,
+    levels: &L,
+    tally: Tally,
+    coded: Guarded,
+) -> io::Result<()> {
     let Guarded {
         count,
         price,
         darker,
         lighter,
     } = coded;
-    let tally = levels.tally();
     let units = Price(price);
     print!(out;
         "darker by {darker} at most, lighter by {lighter} at most
@@ -117,8 +157,14 @@ fn place_of(pictures: Pictures<'_>, worst: Worst) -> Place
 }
 
 fn put_worst<W: Print>(out: &W, pictures: Pictures<'_>) -> io::Result<()> {
-    let farthest = place_of(pictures, farthest(pictures));
-    let darkest = place_of(pictures, darkest(pictures));
+    let Pictures {
+        size,
+        camera,
+        shown,
+        ..
+    } = pictures;
+    let farthest = place_of(pictures, farthest(camera, shown, size.area()));
+    let darkest = place_of(pictures, darkest(camera, shown, size.area()));
     print!(out;
         "largest difference of a sample in the whole {farthest}; both count from 0.
 largest darkening of a sample in the whole {darkest}.
@@ -142,10 +188,10 @@ and any filter, with the picture's last column and row repeated outside.
 }
 
 // All that stands behind the blocks.
-pub fn put_shown<W: Print>(out: &W, pictures: Pictures<'_>, asked: Asked) -> io::Result<()> {
+pub fn put_shown<W: Print>(out: &W, pictures: Pictures<'_>, height: Option<u32>) -> io::Result<()> {
     put_whole(out, Greys::of(pictures))?;
     put_worst(out, pictures)?;
-    put_proved(out, asked.height)?;
+    put_proved(out, height)?;
     let pgm = Pgm::of(pictures);
     print!(out; "\nthe picture shown, as a PGM:\n{pgm}")
 }

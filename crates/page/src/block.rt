@@ -1,7 +1,8 @@
 // A block of 8 by 8 on the page.
-ghost use Rattle.std.specs.Prelude.{◌≡◌, ◌≤◌, ◌<◌};
+ghost use Rattle.std.specs.Prelude.{◌≡◌, ◌<◌};
 ghost use Rattle.integers.specs.Sum.{at};
 ghost use Rattle.fates.specs.Fate.{fate_at, block_tally, Most};
+ghost use Rattle.page.specs.Judged.{Judged};
 
 use fates::{Fate, Tally, became};
 use refusals::ranges::Qp;
@@ -39,21 +40,39 @@ impl Display for Samples<'_> {
     }
 }
 
-// The levels at a QP, beside the coefficients that they were made of.
+// The levels at a QP, beside the coefficients that they were made of and what became of each.
 #[derive(Clone, Copy)]
 pub struct Levels {
     pub coefficients: [i16; 96],
     pub levels: [i16; 96],
     pub qp: Qp,
+    pub fates: [Fate; 64],
+    pub ghost judged: { Judged qp.qp coefficients levels fates },
 }
 
 impl Levels {
+    // Judged once, for the marks and the tally.
+    pub fn of(coefficients: [i16; 96], levels: [i16; 96], qp: Qp) -> Levels
+        ensures { (result.coefficients ≡ coefficients) × (result.levels ≡ levels) × (result.qp ≡ qp) }
+    {
+        let mut fates = [Fate::Nothing; 64];
+        for i in 0..64 {
+            fates[i] = became(coefficients[i], levels[i], qp);
+        }
+        Levels {
+            coefficients,
+            levels,
+            qp,
+            fates,
+        }
+    }
+
     // What became of the one at place i.
     fn fate(&self, i: usize) -> Fate
         requires { i < 64 }
         ensures { result ≡ fate_at self.now.qp.qp (at self.now.coefficients i) (at self.now.levels i) }
     {
-        became(self.coefficients[i], self.levels[i], self.qp)
+        self.fates[i]
     }
 
     // How many were kept, lowered and dropped.

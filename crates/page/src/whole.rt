@@ -1,5 +1,5 @@
 // The whole pictures on the page.
-ghost use Rattle.std.specs.Prelude.{◌≡◌, ◌+◌, ◌/◌, ◌≤◌};
+ghost use Rattle.std.specs.Prelude.{◌≡◌, ◌+◌, ◌/◌, ◌≤◌, length};
 
 use picture::{Pictures, Size};
 use std::fmt::{Display, Formatter, Result, Write};
@@ -55,6 +55,7 @@ impl Display for Greys<'_> {
             size,
             camera,
             shown,
+            ..
         } = self.pictures;
         let step = self.step;
         let between = if size.width % step == 0 {
@@ -84,7 +85,8 @@ impl Display for Greys<'_> {
 #[derive(Clone, Copy)]
 pub struct Pgm<'a> {
     pub size: Size,
-    pub samples: &'a [u16; 65536],
+    pub samples: &'a [u16],
+    pub ghost roomy: { 65536 ≤ length samples.now },
 }
 
 impl<'a> Pgm<'a> {
@@ -121,7 +123,7 @@ impl Display for Lines<'_> {
 
 impl Display for Pgm<'_> {
     fn fmt<W: Write>(&self, f: &mut Formatter<W>) -> Result {
-        let Pgm { size, samples } = *self;
+        let Pgm { size, samples, .. } = *self;
         let Size { width, height, .. } = size;
         write!(f, "P2\n{width} {height}\n1023\n")?;
         for row in samples.chunks_exact(width).take(height) {

@@ -2,7 +2,7 @@
 // the samples, each scaled to 10 bits. What is wrong with a file is told by name. Nothing is read past the last sample.
 #![tactic(auto)]
 
-ghost use Rattle.std.specs.Prelude.{◌≡◌, ◌*◌, ◌≤◌, ◌<◌, length, IfSome, IfOk};
+ghost use Rattle.std.specs.Prelude.{◌≡◌, ◌≤◌, ◌<◌, length, IfSome, IfOk};
 ghost use Rattle.pgm.specs.Gap.{is_blank, in_gap, goes_on, past_gap};
 ghost use Rattle.pgm.specs.Number.{is_digit, with_digit, found_of, digits_at, number_at, byte_at, pair_at, sample_at};
 ghost use Rattle.pgm.specs.Header.{told, raw_form, positive_at, samples_from, head_checked, head_sized, head_kind};
@@ -250,21 +250,27 @@ fn scaled(v: u32, most: u32) -> u16
     ((v * 1023 + most / 2) / most) as u16
 }
 
-// Takes the picture's samples, by rows.
-pub fn take_samples(bytes: &[u8], header: Header, camera: &mut [u16]) -> Result<(), BadSample>
-    requires { header.size.height * header.size.width ≤ length camera.old }
-    ensures { let n = header.size.height * header.size.width in
-        Outcome bytes.now header.form header.at header.most n camera.new result }
+// Takes n samples, by rows, from `at` on.
+pub fn take_samples(
+    bytes: &[u8],
+    at: usize,
+    form: Form,
+    most: u32,
+    n: usize,
+    camera: &mut [u16],
+) -> Result<(), BadSample>
+    requires { (1 ≤ most) × (most ≤ 65535) × (n ≤ length camera.old) }
+    ensures { Outcome bytes.now form at most n camera.new result }
 {
-    let mut from = header.at;
-    for i in 0..header.size.area() {
-        let Some(sample) = next_sample(bytes, from, header.form) else {
+    let mut from = at;
+    for i in 0..n {
+        let Some(sample) = next_sample(bytes, from, form) else {
             return Err(BadSample::Missing(i));
         };
-        if header.most < sample.value {
+        if most < sample.value {
             return Err(BadSample::Above(i));
         }
-        camera[i] = scaled(sample.value, header.most);
+        camera[i] = scaled(sample.value, most);
         from = sample.next;
     }
     Ok(())

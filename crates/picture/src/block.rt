@@ -1,5 +1,5 @@
 // A block of 8 by 8 of a picture, and where its samples stand.
-ghost use Rattle.std.specs.Prelude.{◌≡◌, ◌<◌};
+ghost use Rattle.std.specs.Prelude.{◌≡◌, ◌≤◌, ◌<◌, length};
 ghost use Rattle.picture.specs.Picture.{row_of, column_of, inside_of, place_of, Taken, Kept};
 
 use crate::sides::Size;
@@ -48,7 +48,8 @@ impl Block {
         y * self.size.width + x
     }
 
-    pub fn take(self, camera: &[u16; 65536]) -> [u16; 64]
+    pub fn take(self, camera: &[u16]) -> [u16; 64]
+        requires { 65536 ≤ length camera.now }
         ensures { Taken camera.now self.size self.number result }
     {
         let mut block = [0u16; 64];
@@ -59,10 +60,19 @@ impl Block {
     }
 
     // Keeps its samples behind those of the blocks before it.
-    pub fn keep(self, kept: &mut [u16; 65536], samples: &[u16; 64])
+    pub fn keep(self, kept: &mut [u16], samples: &[u16; 64])
+        requires { 65536 ≤ length kept.old }
         ensures { Kept kept.old self.number samples.now kept.new }
     {
-        let from = self.number * 64;
-        kept[from..from + 64].copy_from_slice(samples);
+        keep(kept, self.number, samples);
     }
+}
+
+// Keeps a block by its number alone, behind those before it.
+pub fn keep(kept: &mut [u16], number: usize, samples: &[u16; 64])
+    requires { (number < 1024) × (65536 ≤ length kept.old) }
+    ensures { Kept kept.old number samples.now kept.new }
+{
+    let from = number * 64;
+    kept[from..from + 64].copy_from_slice(samples);
 }

@@ -3,11 +3,11 @@
 // sample: light paper. A block of 64 stands in front of 32 samples of chroma, which are not coded.
 #![tactic(auto)]
 
-ghost use Rattle.std.specs.Prelude.{◌≡◌, ℕ, ◌*◌, ◌≤◌, ◌<◌, length, get_or};
+ghost use Rattle.std.specs.Prelude.{◌≡◌, ℕ, ◌≤◌, ◌<◌, length, get_or};
 ghost use Rattle.shown.specs.Shown.{residual_of, viewed_of, apart_of, apart_at, Residuals, Views, block_apart};
 ghost use Rattle.shown.specs.Shown.{apart_in, darker_in, distance_in, Farthest, farther_of};
 
-use picture::{Block, Pictures};
+use picture::Block;
 
 // A sample of 10 bits less the guess.
 #[tactic(auto, unfolding(crate::specs::Shown::residual_of))]
@@ -108,35 +108,20 @@ fn worst_by<F: Fn(u16, u16) -> u16>(camera: &[u16], shown: &[u16], n: usize, dis
     best
 }
 
-// The largest difference of a sample.
+// The largest difference of the first n samples of two pictures.
 #[tactic(auto, unfolding(crate::specs::Shown::apart_of))]
-pub fn farthest(pictures: Pictures<'_>) -> Worst
-    ensures { let n = pictures.entry.size.height * pictures.entry.size.width in
-        Farthest (apart_in pictures.entry.camera.now pictures.entry.shown.now) n result }
+pub fn farthest(camera: &[u16], shown: &[u16], n: usize) -> Worst
+    requires { (1 ≤ n) × (n ≤ length camera.now) × (n ≤ length shown.now) }
+    ensures { Farthest (apart_in camera.now shown.now) n result }
 {
-    let Pictures {
-        size,
-        camera,
-        shown,
-    } = pictures;
-    worst_by(camera, shown, size.area(), |seen, view| seen.abs_diff(view))
+    worst_by(camera, shown, n, |seen, view| seen.abs_diff(view))
 }
 
-// The largest darkening of a sample: how much less is shown than the camera saw.
+// The largest darkening of the first n samples: how much less is shown than the camera saw.
 #[tactic(auto, unfolding(crate::specs::Shown::darker_of))]
-pub fn darkest(pictures: Pictures<'_>) -> Worst
-    ensures { let n = pictures.entry.size.height * pictures.entry.size.width in
-        Farthest (darker_in pictures.entry.camera.now pictures.entry.shown.now) n result }
+pub fn darkest(camera: &[u16], shown: &[u16], n: usize) -> Worst
+    requires { (1 ≤ n) × (n ≤ length camera.now) × (n ≤ length shown.now) }
+    ensures { Farthest (darker_in camera.now shown.now) n result }
 {
-    let Pictures {
-        size,
-        camera,
-        shown,
-    } = pictures;
-    worst_by(
-        camera,
-        shown,
-        size.area(),
-        |seen, view| seen.saturating_sub(view),
-    )
+    worst_by(camera, shown, n, |seen, view| seen.saturating_sub(view))
 }

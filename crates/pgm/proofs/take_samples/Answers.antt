@@ -25,11 +25,12 @@ loop-i-init c = record { start = refl; good = below_none _; stored = below_none 
 pub loop-i-preserved : goal.loop-i-preserved
 loop-i-preserved c =
     let l = c.loop-i in
-    let h = c.args.header in
+    let form = c.args.form in
+    let at = c.args.at in
     let bytes = c.args.bytes.now in
-    let e = here bytes h.form h.at l.from l.i c.in-Some.sample l.invariant.start c.in-Some.ensures in
+    let e = here bytes form at l.from l.i c.in-Some.sample l.invariant.start c.in-Some.ensures in
     record {
-      start = next_start bytes h.form h.at l.i c.in-Some.sample e;
-      good = below_more _ _ l.invariant.good (rw e (refl, c.if-header-sample.false));
+      start = next_start bytes form at l.i c.in-Some.sample e;
+      good = below_more _ _ l.invariant.good (rw e (refl, c.if-most-sample.false));
       stored = filled_more 0 l.camera _ l.i _ (omega arith) (rw e c.scaled.ensures.0) l.invariant.stored;
     }

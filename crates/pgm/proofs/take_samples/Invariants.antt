@@ -6,9 +6,7 @@ use Rattle.pgm.proofs.take_samples.Given as goal
 
 abbrev pub invariant-loop-i : goal.invariant-loop-i
 invariant-loop-i l = record {
-  start : l.from ≡ start_of l.bytes l.header.form l.header.at l.i;
-  good : Good l.bytes l.header.form l.header.at l.header.most l.i;
-  stored :
-      Filled 0 l.camera
-      (λ k. scaled_of (value_of (nth l.bytes l.header.form l.header.at k)) l.header.most) l.i;
+  start : l.from ≡ start_of l.bytes l.form l.at l.i;
+  good : Good l.bytes l.form l.at l.most l.i;
+  stored : Filled 0 l.camera (λ k. scaled_of (value_of (nth l.bytes l.form l.at k)) l.most) l.i;
 }
