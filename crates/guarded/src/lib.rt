@@ -53,6 +53,5 @@ pub fn guarded_sub_block(
     ensures buffer { buffer.new
         ≡ guarded_buffer (guarded_request buffer.old (costs_of costs.now) q h) }
 {
-    let mut shown = [0i16; 1024];
-    code_components(&Guarding { heights: h }, buffer, &mut shown, costs, q)
+    code_components::<Guarding, 1024>(&Guarding { heights: h }, buffer, costs, q)
 }

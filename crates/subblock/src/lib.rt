@@ -49,5 +49,5 @@ pub fn sub_block_tq(
     ensures buffer { buffer.new
         ≡ sub_block_buffer (requested buffer.old (costs_of costs.now) q) }
 {
-    code_components(&Plain, buffer, &mut [], costs, q)
+    code_components::<Plain, 0>(&Plain, buffer, costs, q)
 }

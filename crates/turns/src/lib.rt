@@ -92,46 +92,45 @@ fn in_room<C: Coder>(
     Ok(shares)
 }
 
-// A room for the largest call.
-fn code_tested<C: Coder>(
+// A room for the largest call, and one of ROOM places for what is shown: made once the tests have passed.
+fn code_tested<C: Coder, const ROOM: usize>(
     coder: &C,
     buffer: &mut [i16],
-    shown: &mut [i16],
     costs: &[u64; 28],
     q: Request,
 ) -> Result<Three<C::Share>, Refused>
     requires early { EarlyPassed (requested buffer.old (costs_of costs.now) q) }
-    requires wide { C.wide ≤ length shown.old }
+    requires wide { (C.wide ≤ ROOM) × (ROOM ≤ 1024) }
     ensures { Called (C.answer coder.now (costs_of costs.now) q) (C.left coder.now (costs_of costs.now) q)
         (requested buffer.old (costs_of costs.now) q) buffer.new result }
 {
     let stretches = Stretches::of(q.log2_luma);
     let end = stretches.end();
     let mut room = [0i16; 1536];
+    let mut shown = [0i16; ROOM];
     in_room(
         coder,
         &mut room[..end],
         &mut buffer[..end],
-        shown,
+        &mut shown,
         costs,
         q,
         stretches,
     )
 }
 
-// The call over the three components.
-pub fn code_components<C: Coder>(
+// The call over the three components, with ROOM places for what is shown of one.
+pub fn code_components<C: Coder, const ROOM: usize>(
     coder: &C,
     buffer: &mut [i16],
-    shown: &mut [i16],
     costs: &[u64; 28],
     q: Request,
 ) -> Result<Three<C::Share>, Refused>
-    requires { C.wide ≤ length shown.old }
+    requires { (C.wide ≤ ROOM) × (ROOM ≤ 1024) }
     ensures { Called (C.answer coder.now (costs_of costs.now) q) (C.left coder.now (costs_of costs.now) q)
         (requested buffer.old (costs_of costs.now) q) buffer.new result }
 {
     test_settings(q)?;
     test_buffer(buffer, costs, q)?;
-    code_tested(coder, buffer, shown, costs, q)
+    code_tested::<C, ROOM>(coder, buffer, costs, q)
 }
