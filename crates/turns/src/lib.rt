@@ -3,7 +3,7 @@
 // coder's.
 #![tactic(auto)]
 
-ghost use Rattle.std.specs.Prelude.{◌≡◌, List, ℕ, ◌+◌, ◌/◌, ◌≤◌, length, ℤ, Ok, Err};
+ghost use Rattle.std.specs.Prelude.{◌≡◌, List, ℕ, ◌+◌, ◌/◌, ◌^◌, ◌<◌, ◌≤◌, length, ℤ, Ok, Err};
 ghost use Rattle.refusals.specs.declared.Component.{Component};
 ghost use Rattle.refusals.specs.Faults.{Outcome, outcome_by};
 ghost use Rattle.price.specs.declared.Costs.{Costs};
@@ -100,7 +100,7 @@ fn code_tested<C: Coder, const ROOM: usize>(
     q: Request,
 ) -> Result<Three<C::Share>, Refused>
     requires early { EarlyPassed (requested buffer.old (costs_of costs.now) q) }
-    requires wide { (C.wide ≤ ROOM) × (ROOM ≤ 1024) }
+    requires wide { (C.wide ≤ ROOM) × (ROOM < 2 ^ 62) }
     ensures { Called (C.answer coder.now (costs_of costs.now) q) (C.left coder.now (costs_of costs.now) q)
         (requested buffer.old (costs_of costs.now) q) buffer.new result }
 {
@@ -126,7 +126,7 @@ pub fn code_components<C: Coder, const ROOM: usize>(
     costs: &[u64; 28],
     q: Request,
 ) -> Result<Three<C::Share>, Refused>
-    requires { (C.wide ≤ ROOM) × (ROOM ≤ 1024) }
+    requires { (C.wide ≤ ROOM) × (ROOM < 2 ^ 62) }
     ensures { Called (C.answer coder.now (costs_of costs.now) q) (C.left coder.now (costs_of costs.now) q)
         (requested buffer.old (costs_of costs.now) q) buffer.new result }
 {
