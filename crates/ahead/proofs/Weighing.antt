@@ -14,7 +14,7 @@ use Rattle.weights.specs.Inner.Prices.{Fine}
 use Rattle.weights.specs.Inner.Offers.{bare, offered, Offered}
 use Rattle.ahead.specs.declared.Ahead.{Ahead}
 use Rattle.ahead.specs.declared.Choice.{Choice}
-use Rattle.ahead.specs.Inner.Ahead.{ChosenOf, behind_by, zero_by, level_by, WeighedBy}
+use Rattle.ahead.specs.Inner.Ahead.{ChosenOf, behind_by, zero_by, level_by, WeighedBy, WeighedSmall}
 
 -- ---- the offer is m at most
 one_of : (t : Bool) (a b m : ℕ) → a ≤ m → b ≤ m → cond t a b ≤ m
@@ -36,8 +36,8 @@ taken_small p g L f offer o x y r c =
     omega (arith, c.level, one_of (ltb y x) offer.level 0 32767 k (omega arith))
 
 -- ---- the place
-module _ (p : Prices) (t : Ahead) (g : Scale) (L : ℕ) (f : Fine p g L) (offer : Offer) (o : Offered true p g L offer)
-    (d behind : ℕ) (hd : d ≡ distortion g.shift g.error L 0) (b : behind ≡ behind_by p t) where
+module _ (p : Prices) (t : Ahead) (g : Scale) (L : ℕ) (offer : Offer) (o : Offered true p g L offer) (d behind : ℕ)
+    (hd : d ≡ distortion g.shift g.error L 0) (b : behind ≡ behind_by p t) where
   weighed_as : (zr hr : ℕ) (r : Choice) → ChosenOf (t.zero + d + zr) (behind + offer.price + hr) offer.level r
       → ChosenOf (zero_by g t L + zr) (level_by p g t L + hr) (offered true p g L) r
   weighed_as zr hr r c = rw (← hd, ← b, ← o.is, ← o.price) c
@@ -57,5 +57,21 @@ module _ (p : Prices) (t : Ahead) (g : Scale) (L : ℕ) (f : Fine p g L) (offer 
         rest = ap (λ (x : ℕ). t.rest + x) hd;
         on = e;
         offer = rw (← o.is, ← o.price) (o.some, o.small);
+      }
+
+-- so, of a level that fits
+module _ (p : Prices) (t : Ahead) (g : Scale) (L : ℕ) (f : Fine p g L) (offer : Offer) (o : Offered true p g L offer)
+    (d behind : ℕ) (hd : d ≡ distortion g.shift g.error L 0) (b : behind ≡ behind_by p t) where
+  pub weighed_small : (z n : Choice) → ChosenOf (t.zero + d + p.zeros) (behind + offer.price + p.heads) offer.level z
+      → ChosenOf (t.zero + d + p.zero) (behind + offer.price + p.head) offer.level n
+      → (goes_on : Bool) → goes_on ≡ ltb (t.level + p.more) (t.rest + p.last)
+      → WeighedSmall p g t L
+      (record {
+        ahead = record { zero = z.price; level = n.price; rest = t.rest + d };
+        taken = record { after_zero = z.level; after_level = n.level; goes_on = goes_on };
+      })
+  weighed_small z n cz cn goes_on e =
+      record {
+        by = weighed p t g L offer o d behind hd b z n cz cn goes_on e;
         small = (taken_small p g L f offer o _ _ z cz, taken_small p g L f offer o _ _ n cn);
       }

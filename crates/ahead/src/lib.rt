@@ -3,7 +3,7 @@
 #![tactic(auto)]
 
 ghost use Rattle.std.specs.Prelude.{◌≡◌, ◌+◌, ◌^◌, ◌≤◌};
-ghost use Rattle.ahead.specs.Inner.Ahead.{ChosenOf, passed_by, Ready, WeighedBy};
+ghost use Rattle.ahead.specs.Inner.Ahead.{ChosenOf, passed_by, Ready, WeighedSmall};
 
 use weights::Weights;
 use weights::prices::Prices;
@@ -72,7 +72,7 @@ impl Ahead {
     // A place whose m is above 0. A nonzero level is the last one, unless going on is strictly cheaper.
     pub fn weigh(self, weights: Weights, l: u64) -> Weighed
         requires { Ready weights.prices weights.scale self l }
-        ensures { WeighedBy weights.prices weights.scale self l result }
+        ensures { WeighedSmall weights.prices weights.scale self l result }
     {
         let prices = weights.prices;
         let offer = weights.offer(l, true);

@@ -12,7 +12,7 @@ use guard::guard_component;
 use guarding::Guarded;
 use heights::Heights;
 use refusals::{Component, Refused, Three};
-use turns::{Coder, code_components};
+use turns::{Coder, code_components_with_room};
 
 // A component is guarded by its heights, and looked at in a room as large as the largest block.
 #[derive(Clone, Copy)]
@@ -53,5 +53,5 @@ pub fn guarded_sub_block(
     ensures buffer { buffer.new
         ≡ guarded_buffer (guarded_request buffer.old (costs_of costs.now) q h) }
 {
-    code_components::<Guarding, 1024>(&Guarding { heights: h }, buffer, costs, q)
+    code_components_with_room::<Guarding, 1024>(&Guarding { heights: h }, buffer, costs, q)
 }

@@ -11,7 +11,7 @@ use coding::Coded;
 use components::Request;
 use refusals::{Component, Refused, Three};
 use stretch::code_component;
-use turns::{Coder, code_components};
+use turns::{Coder, code_components_with_room};
 
 // A component is transformed and quantised; what is shown of it is not looked at.
 #[derive(Clone, Copy)]
@@ -49,5 +49,5 @@ pub fn sub_block_tq(
     ensures buffer { buffer.new
         ≡ sub_block_buffer (requested buffer.old (costs_of costs.now) q) }
 {
-    code_components::<Plain, 0>(&Plain, buffer, costs, q)
+    code_components_with_room::<Plain, 0>(&Plain, buffer, costs, q)
 }

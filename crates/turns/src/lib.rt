@@ -15,8 +15,14 @@ ghost use Rattle.stretch.specs.Inner.Part.{Ready};
 ghost use Rattle.refusals.specs.declared.Refused.{Refused};
 ghost use Rattle.turns.specs.Inner.Parts.{AllReady, Parted, Called};
 
+mod lent;
+#[cfg(test)]
+mod tests;
+
 use admission::{Stretches, test_buffer, test_settings};
 use components::Request;
+pub use lent::code_components;
+use lent::code_tested;
 use refusals::{Component, Refused, Three};
 
 // What is done to a component that is ready: its part of the room holds its residuals, which are lent beside it, and
@@ -92,35 +98,9 @@ fn in_room<C: Coder>(
     Ok(shares)
 }
 
-// A room for the largest call, and one of ROOM places for what is shown: made once the tests have passed.
-fn code_tested<C: Coder, const ROOM: usize>(
-    coder: &C,
-    buffer: &mut [i16],
-    costs: &[u64; 28],
-    q: Request,
-) -> Result<Three<C::Share>, Refused>
-    requires early { EarlyPassed (requested buffer.old (costs_of costs.now) q) }
-    requires wide { (C.wide ≤ ROOM) × (ROOM < 2 ^ 62) }
-    ensures { Called (C.answer coder.now (costs_of costs.now) q) (C.left coder.now (costs_of costs.now) q)
-        (requested buffer.old (costs_of costs.now) q) buffer.new result }
-{
-    let stretches = Stretches::of(q.log2_luma);
-    let end = stretches.end();
-    let mut room = [0i16; 1536];
-    let mut shown = [0i16; ROOM];
-    in_room(
-        coder,
-        &mut room[..end],
-        &mut buffer[..end],
-        &mut shown,
-        costs,
-        q,
-        stretches,
-    )
-}
-
-// The call over the three components, with ROOM places for what is shown of one.
-pub fn code_components<C: Coder, const ROOM: usize>(
+// The call over the three components, with ROOM places for what is shown of one, made once the tests have passed: a
+// refused call clears none.
+pub fn code_components_with_room<C: Coder, const ROOM: usize>(
     coder: &C,
     buffer: &mut [i16],
     costs: &[u64; 28],
@@ -132,5 +112,6 @@ pub fn code_components<C: Coder, const ROOM: usize>(
 {
     test_settings(q)?;
     test_buffer(buffer, costs, q)?;
-    code_tested::<C, ROOM>(coder, buffer, costs, q)
+    let mut shown = [0i16; ROOM];
+    code_tested(coder, buffer, &mut shown, costs, q)
 }

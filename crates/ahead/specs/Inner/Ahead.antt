@@ -44,4 +44,8 @@ pub record WeighedBy (p : Prices) (g : Scale) (t : Ahead) (L : ℕ) (r : Weighed
   pub rest : r.ahead.rest ≡ t.rest + distortion g.shift g.error L 0
   pub on : r.taken.goes_on ≡ ltb (t.level + p.more) (t.rest + p.last)
   pub offer : (1 ≤ offered true p g L) × (bare p g L (offered true p g L) ≤ 2 ^ 61 + 2 ^ 59)
+
+-- so, and both levels are of 15 bits
+pub record WeighedSmall (p : Prices) (g : Scale) (t : Ahead) (L : ℕ) (r : Weighed) : Type 0 where
+  pub by : WeighedBy p g t L r
   pub small : (r.taken.after_zero ≤ 32767) × (r.taken.after_level ≤ 32767)

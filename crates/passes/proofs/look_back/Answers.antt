@@ -26,7 +26,7 @@ pub loop-n-preserved : goal.loop-n-preserved
 loop-n-preserved c =
     let is = kept_met c.args.kept c.scan_place.ensures.0 c.block_place.ensures.0 c.value_at-a.ensures in
     weighs_at c.args.kept c.args.end c.requires.0 c.loop-n.invariant c.loop-n-test.true is c.if-a-eq0.false _
-    c.weigh-weighed.ensures
+    c.weigh-weighed.ensures.by
 
 pub returns : goal.returns
 returns c =

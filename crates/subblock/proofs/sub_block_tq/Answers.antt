@@ -5,5 +5,5 @@ use Rattle.subblock.proofs.sub_block_tq.Goals as goal
 
 pub returns : goal.returns
 returns c =
-    let ends = is_sub_block c.args.buffer.now (costs_of c.args.costs.now) c.args.q _ _ c.code_components.ensures in
+    let ends = is_sub_block c.args.buffer.now (costs_of c.args.costs.now) c.args.q _ _ c.code_components_with_room.ensures in
     record { answer = ends.0; buffer = ends.1 }

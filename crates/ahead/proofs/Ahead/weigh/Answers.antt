@@ -3,7 +3,7 @@ use mathlib.Core.Path.{◌≡◌, refl, sym, ◌∙◌}
 use native.Mathlib.Omega.{arith}
 use borrow.Author.Tests.{lt-ltb, le-ltb}
 use Rattle.ahead.specs.Inner.Ahead.{behind_by}
-use Rattle.ahead.proofs.Weighing.{taken_small, weighed}
+use Rattle.ahead.proofs.Weighing.{taken_small, weighed_small}
 use Rattle.ahead.proofs.Ahead.weigh.Goals as goal
 use Rattle.ahead.proofs.Ahead.weigh.Goals.{then-goes_on, else-goes_on}
 
@@ -22,5 +22,5 @@ returns c =
       | then-goes_on w ↦ w.behind-is ∙ sym (let k = lt-ltb _ _ w.if-goes_on.true in rw k)
       | else-goes_on w ↦ w.behind-is ∙ sym (let k = le-ltb _ _ w.if-goes_on.false in rw k)
     ] in
-    weighed _ _ _ _ c.requires.fine _ c.offer-offer.ensures _ _ c.squared_below-d.ensures.is behind _ _
+    weighed_small _ _ _ _ c.requires.fine _ c.offer-offer.ensures _ _ c.squared_below-d.ensures.is behind _ _
     c.choose-z.ensures c.choose-n.ensures _ refl

@@ -1,11 +1,11 @@
--- `turns::code_components` meets its contract: a fault of the first two groups is the call's refusal, and the rest is
+-- `turns::code_components_with_room` meets its contract: a fault of the first two groups is the call's refusal, and the rest is
 -- coded.
 use mathlib.Core.Path.{sym}
 use Rattle.std.proofs.lemmas.Result.{err_from_is_err_and}
 use Rattle.price.specs.Costs.{costs_of}
 use Rattle.turns.proofs.Passed.{log2_fine}
 use Rattle.turns.proofs.Called.{settings_refused, buffer_refused}
-use Rattle.turns.proofs.code_components.Goals as goal
+use Rattle.turns.proofs.code_components_with_room.Goals as goal
 
 pub returns-in_err-test_settings : goal.returns-in_err-test_settings
 returns-in_err-test_settings g c =

@@ -1,14 +1,11 @@
--- `turns::code_tested` meets its contract: the room is long enough for every accepted side, and the one for what is
--- shown for the coder.
+-- `turns::code_tested` meets its contract: the room is long enough for every accepted side.
 use mathlib.Core.Path.{sym, ◌∙◌}
 use native.Mathlib.Omega.{arith}
 use lib.Seq.{length-take-le}
-use Rattle.std.proofs.Common.{pos}
-use Rattle.std.proofs.lemmas.List.{length-replicate}
 use Rattle.price.specs.Costs.{costs_of}
 use Rattle.turns.proofs.Passed.{log2_fine, room_of, front_long, all_ready}
 use Rattle.turns.proofs.Called.{three_coded}
-use Rattle.turns.proofs.code_tested.Goals as goal
+use Rattle.turns.proofs.lent.code_tested.Goals as goal
 
 pub of-stretches-requires : goal.of-stretches-requires
 of-stretches-requires g c =
@@ -32,10 +29,8 @@ in_room-requires-clause-ready g c =
 pub in_room-requires-clause-given : goal.in_room-requires-clause-given
 in_room-requires-clause-given g c =
     let long = front_long c.args.buffer.now (costs_of c.args.costs.now) c.args.q c.requires.early _ c.of-stretches.ensures _
-    c.end-end.ensures in (
-      length-take-le c.end-end.result _ (omega (arith, c.end-end.ensures, c.of-stretches.result.small)) ∙ sym long,
-      omega (arith, c.requires.wide.0, length-replicate g.row.ROOM (pos 0)),
-    )
+    c.end-end.ensures in
+    (length-take-le c.end-end.result _ (omega (arith, c.end-end.ensures, c.of-stretches.result.small)) ∙ sym long, c.requires.wide)
 
 pub returns : goal.returns
 returns g c =
