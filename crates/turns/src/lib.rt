@@ -10,7 +10,6 @@ ghost use Rattle.price.specs.declared.Costs.{Costs};
 ghost use Rattle.price.specs.Costs.{costs_of};
 ghost use Rattle.components.specs.declared.Request.{Request};
 ghost use Rattle.components.specs.Call.{requested};
-ghost use Rattle.components.specs.Inner.Groups.{EarlyPassed};
 ghost use Rattle.stretch.specs.Inner.Part.{Ready};
 ghost use Rattle.refusals.specs.declared.Refused.{Refused};
 ghost use Rattle.turns.specs.Inner.Parts.{AllReady, Parted, Called};
