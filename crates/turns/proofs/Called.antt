@@ -4,7 +4,8 @@ use mathlib.Core.List.{List, ◌++◌, append_assoc}
 use Prim.Native.Nat.{ℕ, ◌+◌, ◌/◌}
 use lib.ListN.{take, drop, take-append-drop}
 use lib.IntN.{ℤ}
-use Rattle.std.specs.Prelude.{Result, Ok, Err}
+use Rattle.std.specs.Prelude.{Result, Ok, Err, IsErrAnd}
+use Rattle.std.proofs.lemmas.Result.{err_from_is_err_and}
 use Rattle.refusals.specs.declared.Refused.{Refused}
 use Rattle.refusals.specs.declared.Three.{Three}
 use Rattle.refusals.specs.declared.Component.{Component}
@@ -54,6 +55,14 @@ module _ {A : Type 0} (answers : Component → List ℤ → Outcome A) (leaves :
           left = λ a h. absurd (no_shares a h);
           kept = λ x h. refl;
         }
+
+  -- what is handed on is what the test says
+  module _ (e : Refused) (handed : IsErrAnd r (λ x. x ≡ e)) where
+    pub settings_handed : says e ≡ verdict settings_faults s → Called answers leaves s b r
+    settings_handed f = let p = err_from_is_err_and r handed in settings_refused p.0 p.1 (rw p.2 f)
+
+    pub buffer_handed : passed ≡ verdict settings_faults s → says e ≡ verdict buffer_faults s → Called answers leaves s b r
+    buffer_handed f g = let p = err_from_is_err_and r handed in buffer_refused p.0 p.1 f (rw p.2 g)
 
   -- ---- or none does
   module _ (n : ℕ) (z : Sizes q.log2_luma n) (end : ℕ) (its_end : end ≡ n + n / 4 + n / 4) (early : EarlyPassed s) where

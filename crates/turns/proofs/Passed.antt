@@ -31,6 +31,9 @@ module _ (b : List ℤ) (t : Costs) (q : Request) where
   unfolding requested
   log2_fine e = (sides_fine s e).0
 
+  pub log2_tested : passed ≡ verdict settings_faults s → (2 ≤ q.log2_luma) × (q.log2_luma ≤ most_log2)
+  log2_tested e = log2_fine (sym e)
+
   log2_is : (k : Component) → length (stretch k s) ≡ area k s
       → length (stretch k s) ≡ 2 ^ log2_in k q * 2 ^ log2_in k q
   unfolding area requested
